@@ -1,0 +1,19 @@
+-- Document 01 as definitions that run, a file for each of its headings and in its order. Nothing is proved here but that the
+-- worked examples (Cases) and the outside vectors (Vectors) come out as they should.
+pub mod Whole
+pub mod Sizes
+pub mod Question
+pub mod Refusals
+pub mod Wire
+pub mod Writing
+pub mod Words
+pub mod States
+pub mod Bound
+pub mod Numbering
+pub mod Deciding
+pub mod Building
+pub mod Running
+pub mod Judging
+pub mod Outcomes
+pub mod Cases
+pub mod Vectors

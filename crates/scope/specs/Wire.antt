@@ -1,0 +1,222 @@
+-- Document 01, "A question on the wire": records, what is due, the checks at each record, and reading a question whole.
+use Prim.Native.Nat.{ℕ, zero, suc, _+_, _*_}
+use mathlib.Core.Bool.{Bool, true, false, not, cond, _||_}
+use mathlib.Core.Option.{Option, none, some}
+use mathlib.Core.List.{List, [], _∷_, _++_}
+use lib.ListN.{length, getD, set, replicate}
+use lib.Seq.{sets}
+use lib.Dec.{leb, ltb, eqb}
+use lib.IntN.{ℤ}
+use mir.Syntax.{w32}
+use mir.Val.{toZ}
+use Rattle.scope.specs.declared.Question.{Question}
+use Rattle.scope.specs.declared.Refusal.{Refusal}
+use Rattle.scope.specs.declared.RecordAnswer.{RecordAnswer}
+use Rattle.scope.specs.declared.ReadAnswer.{ReadAnswer}
+use Rattle.scope.specs.declared.Held.{Held}
+use Rattle.scope.specs.Sizes.{mostVariables, mostAtoms, mostNodes, mostDepth, variablesFit, numbersFit}
+use Rattle.scope.specs.Question.{Node, atom, equation, atMost, unused, codeOf, isUnused, isAtom, parts, emptyQuestion}
+use Rattle.scope.specs.Refusals.{Check, check, refusal, firstRefusal, Progress, stopped, going, ended, orStopped, onward}
+
+-- ---- little-endian numbers
+
+abbrev pub byteAt : List ℕ → ℕ → ℕ
+byteAt b at = getD b at 0
+
+abbrev pub twoAt : List ℕ → ℕ → ℕ
+twoAt b at = byteAt b at + 256 * byteAt b (at + 1)
+
+-- four bytes, in two's complement
+abbrev pub numberAt : List ℕ → ℕ → ℤ
+numberAt b at = toZ w32 (twoAt b at + 65536 * twoAt b (at + 2))
+
+-- the count numbers from a place on
+unfoldable pub numbersAt : ℕ → List ℕ → ℕ → List ℤ
+numbersAt zero b at = []
+numbersAt (suc count) b at = numberAt b at ∷ numbersAt count b (at + 4)
+
+-- ---- records: a two-byte length of the body, a two-byte kind, the body
+
+abbrev pub lengthAt : List ℕ → ℕ → ℕ
+lengthAt b at = twoAt b at
+
+abbrev pub kindAt : List ℕ → ℕ → ℕ
+kindAt b at = twoAt b (at + 2)
+
+-- fewer than 4 bytes left, and body cut, each the other way round
+abbrev pub headerThere : List ℕ → ℕ → Bool
+headerThere b at = leb (at + 4) (length b)
+
+abbrev pub bodyThere : List ℕ → ℕ → Bool
+bodyThere b at = leb (at + 4 + lengthAt b at) (length b)
+
+abbrev pub recordOr : Option Refusal → List ℕ → ℕ → RecordAnswer
+recordOr none b at = RecordAnswer.Record (kindAt b at) (at + 4) (lengthAt b at) (at + 4 + lengthAt b at)
+recordOr (some r) b at = RecordAnswer.Refused r
+
+-- a bare step
+unfoldable pub recordAt : List ℕ → ℕ → RecordAnswer
+recordAt b at = recordOr (firstRefusal (check 1 at (headerThere b at) ∷ check 1 at (bodyThere b at) ∷ [])) b at
+
+-- ---- kinds
+
+abbrev pub headKind : ℕ
+headKind = 0x0001
+
+abbrev pub endKind : ℕ
+endKind = 0x00FF
+
+abbrev pub kindOf : Node → ℕ
+kindOf unused = 0
+kindOf (atom equation) = 0x0010
+kindOf (atom atMost) = 0x0011
+kindOf Node.not = 0x0020
+kindOf Node.and = 0x0021
+kindOf Node.or = 0x0022
+
+-- the node of a kind: unused where the kind is none of a node
+abbrev pub nodeOfKind : ℕ → Node
+nodeOfKind k =
+    cond (eqb k 0x0010) (atom equation)
+    (cond (eqb k 0x0011) (atom atMost)
+    (cond (eqb k 0x0020) Node.not
+    (cond (eqb k 0x0021) Node.and
+    (cond (eqb k 0x0022) Node.or
+    unused))))
+
+-- the length of a node's body: n coefficients, then k, four bytes each, or empty
+abbrev pub bodyLength : ℕ → Node → ℕ
+bodyLength n x = cond (isAtom x) (4 * (n + 1)) 0
+
+-- ---- the formula as far as it is known: its nodes and atoms so far, and the depths of the parts still due, the next one first
+
+pub record Shape : Type 0 where
+  pub nodes : ℕ
+  pub atoms : ℕ
+  pub due : List ℕ
+
+-- one formula is due, its root at depth 1
+abbrev pub unread : Shape
+unread = record { nodes = 0; atoms = 0; due = 1 ∷ [] }
+
+-- a node takes the place of the part that was due first, and its own parts are due before the others, one deeper
+unfoldable pub grown : Node → ℕ → List ℕ → Shape → Shape
+grown x depth due s = record { nodes = s .nodes + 1; atoms = s .atoms + cond (isAtom x) 1 0; due = replicate (parts x) (depth + 1) ++ due }
+
+-- a 65th node
+abbrev pub placeCheck : ℕ → Shape → Check
+placeCheck place s = check 5 place (ltb (s .nodes) mostNodes)
+
+-- a ninth atom or depth 17
+abbrev pub sizeChecks : ℕ → Node → ℕ → Shape → List Check → List Check
+sizeChecks place x depth s later = check 5 place (not (isAtom x) || ltb (s .atoms) mostAtoms) ∷ check 5 place (leb depth mostDepth) ∷ later
+
+-- ---- reading
+
+-- what is read so far, and the place of the next record
+pub record Reading : Type 0 where
+  pub question : Question
+  pub shape : Shape
+  pub place : ℕ
+
+-- the question that was read, and the place after it
+pub record Ended : Type 0 where
+  pub question : Question
+  pub next : ℕ
+
+-- the head: n
+unfoldable pub headRead : List ℕ → ℕ → Progress Reading Ended
+headRead b at =
+    let n = byteAt b (at + 4) in
+    orStopped
+    (firstRefusal
+    (check 1 at (headerThere b at) ∷
+    check 2 at (eqb (kindAt b at) headKind) ∷
+    check 3 at (eqb (lengthAt b at) 1) ∷
+    check 1 at (bodyThere b at) ∷
+    check 4 at (variablesFit n) ∷
+    []))
+    (going
+    (record {
+      question = record { n = n; codes = emptyQuestion .codes; coefficients = emptyQuestion .coefficients; constants = emptyQuestion .constants };
+      shape = unread;
+      place = at + 5;
+    }))
+
+-- a node noted in the question; its numbers where it is an atom
+unfoldable pub noted : Bool → Node → List ℤ → ℤ → Shape → Question → Question
+noted true x coefficients constant s q = record {
+  n = q .n;
+  codes = set (q .codes) (s .nodes) (codeOf x);
+  coefficients = sets (q .coefficients) (mostVariables * s .atoms) coefficients;
+  constants = set (q .constants) (s .atoms) constant;
+}
+noted false x coefficients constant s q = record {
+  n = q .n;
+  codes = set (q .codes) (s .nodes) (codeOf x);
+  coefficients = q .coefficients;
+  constants = q .constants;
+}
+
+-- a node, where a part is due at this depth and others after it
+unfoldable pub nodeRead : List ℕ → ℕ → List ℕ → Reading → Progress Reading Ended
+nodeRead b depth due s =
+    let at = s .place in
+    let n = s .question .n in
+    let x = nodeOfKind (kindAt b at) in
+    let coefficients = numbersAt n b (at + 4) in
+    let constant = numberAt b (at + 4 + 4 * n) in
+    orStopped
+    (firstRefusal
+    (check 1 at (headerThere b at) ∷
+    check 2 at (not (isUnused x)) ∷
+    check 3 at (eqb (lengthAt b at) (bodyLength n x)) ∷
+    check 1 at (bodyThere b at) ∷
+    placeCheck at (s .shape) ∷
+    sizeChecks at x depth (s .shape)
+    (check 4 at (not (isAtom x) || numbersFit coefficients constant) ∷
+    [])))
+    (going
+    (record {
+      question = noted (isAtom x) x coefficients constant (s .shape) (s .question);
+      shape = grown x depth due (s .shape);
+      place = at + 4 + bodyLength n x;
+    }))
+
+-- the end, where no part is due; its empty body is never cut
+unfoldable pub endRead : List ℕ → Reading → Progress Reading Ended
+endRead b s =
+    let at = s .place in
+    orStopped
+    (firstRefusal
+    (check 1 at (headerThere b at) ∷
+    check 2 at (eqb (kindAt b at) endKind) ∷
+    check 3 at (eqb (lengthAt b at) 0) ∷
+    []))
+    (ended (record { question = s .question; next = at + 4 }))
+
+abbrev pub dueRead : List ℕ → List ℕ → Reading → Progress Reading Ended
+dueRead b [] s = endRead b s
+dueRead b (depth ∷ due) s = nodeRead b depth due s
+
+unfoldable pub recordRead : List ℕ → Reading → Progress Reading Ended
+recordRead b s = dueRead b (s .shape .due) s
+
+-- the question that starts at a place, up to its end record: no more than 64 nodes and the end follow the head
+unfoldable pub readFrom : List ℕ → ℕ → Progress Reading Ended
+readFrom b at = onward (mostNodes + 1) (recordRead b) (headRead b at)
+
+-- after the end, any byte left is 6, at that byte
+unfoldable pub wholeRead : List ℕ → Progress Reading Ended → Progress Reading Ended
+wholeRead b (stopped r) = stopped r
+wholeRead b (going s) = going s
+wholeRead b (ended e) = orStopped (firstRefusal (check 6 (e .next) (leb (length b) (e .next)) ∷ [])) (ended e)
+
+-- (nothing is left going: a 65th node is refused)
+abbrev pub heldOf : Progress Reading Ended → Held
+heldOf (stopped r) = record { answer = ReadAnswer.Refused r; question = emptyQuestion }
+heldOf (going s) = record { answer = ReadAnswer.Refused (refusal 5 (s .place)); question = emptyQuestion }
+heldOf (ended e) = record { answer = ReadAnswer.Accepted; question = e .question }
+
+unfoldable pub readHeld : List ℕ → Held
+readHeld b = heldOf (wholeRead b (readFrom b 0))

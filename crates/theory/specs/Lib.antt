@@ -1,0 +1,5 @@
+-- Theorems on the definitions of `scope`, before there is any code.
+pub mod Bridge
+pub mod Integers
+pub mod Half
+pub mod Magnitude

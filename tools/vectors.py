@@ -1,0 +1,124 @@
+"""Writes crates/scope/specs/Vectors.antt from outside vectors: python3 tools/vectors.py VECTORS > crates/scope/specs/Vectors.antt
+
+VECTORS has one call a line with its outcome. Of each call and outcome (for a refusal: of each number) the lines that
+are the quickest to compute are taken, as many as WANTED says, and of reading and writing the longest one too.
+"""
+import sys
+
+WANTED = {
+    "read accepted": 6, "read refused": 3,
+    "write written": 6, "write refused": 4,
+    "judge yes": 6, "judge no": 6, "judge refused": 3,
+    "decide found at once": 3, "decide found later": 6, "decide never": 4, "decide no-room": 5, "decide refused": 1,
+    "build built": 6, "build no-room": 5,
+    "spell value": 6, "spell refused": 4,
+}
+# where the outcome stands in a line of each call
+OUTCOME = {"read": 2, "write": 6, "judge": 3, "decide": 4, "build": 3, "spell": 4}
+
+
+def joined(items):
+    return "(" + "".join(f"{x} ∷ " for x in items) + "[])" if items else "[]"
+
+
+def naturals(text):
+    return [] if text == "-" else text.split(",")
+
+
+def whole(text):
+    z = int(text)
+    return f"pos {z}" if z >= 0 else f"negsuc {-z - 1}"
+
+
+def unpadded(cells):
+    """Without the zeros at the end: `question` puts them back."""
+    while cells and cells[-1] in ("0", "pos 0"):
+        cells = cells[:-1]
+    return cells
+
+
+def question(words):
+    n, codes, coefficients, constants = words
+    return "(question {} {} {} {})".format(
+        n, joined(unpadded(naturals(codes))),
+        joined(unpadded([whole(x) for x in naturals(coefficients)])),
+        joined(unpadded([whole(x) for x in naturals(constants)])))
+
+
+def octets(text):
+    return joined([] if text == "-" else list(bytes.fromhex(text)))
+
+
+def refusal(words):
+    return f"(refusal {words[0]} {words[1] if len(words) > 1 else 0})"
+
+
+def line(words):
+    call, at = words[0], OUTCOME[words[0]]
+    said, rest = words[at], words[at + 1:]
+    if call == "read":
+        gives = f"reads {octets(words[1])}"
+        should = f"accepted {question(rest)}" if said == "accepted" else f"unread {refusal(rest)}"
+    elif call == "write":
+        room = words[5]
+        gives = f"writes {question(words[1:5])} {room}"
+        should = f"writtenIn {room} {octets(rest[0])}" if said == "written" else f"unwritten {room} {refusal(rest)}"
+    elif call == "judge":
+        gives = f"judges {octets(words[1])} {joined(naturals(words[2]))}"
+        should = {"yes": "truth TruthAnswer.Yes", "no": "truth TruthAnswer.No"}.get(said) or f"truth (TruthAnswer.Refused {refusal(rest)})"
+    elif call == "decide":
+        room = words[3]
+        call = "decidesShort" if said == "refused" else "decides"
+        gives = f"{call} {octets(words[1])} {words[2]} {room}"
+        should = {
+            "found": lambda: f"foundIn {room} {rest[0]} {joined(naturals(rest[1]))}",
+            "never": lambda: f"neverIn {room} {rest[0]}",
+            "no-room": lambda: f"noRoomIn {room} {rest[0]}",
+            "refused": lambda: f"count {rest[1]}",
+        }[said]()
+    elif call == "build":
+        cells = int(words[2]) * (1 + 2 ** bytes.fromhex(words[1])[4])
+        gives = f"buildsCells {octets(words[1])} {words[2]}"
+        should = f"cellsIn {cells} {rest[0]} {joined(naturals(rest[1]))}" if said == "built" else f"noCellsIn {cells} {rest[0]}"
+    else:
+        gives = f"spells {words[1]} {words[2]} {joined(naturals(words[3]))}"
+        should = f"spelling (SpellAnswer.Value {rest[0]})" if said == "value" else f"spelling (SpellAnswer.Refused {refusal(rest)})"
+    return f"    line ({gives}) ({should}) ∷"
+
+
+def cost(words):
+    """What a line takes to compute: where there is a search, the rows squared times the letters; and its length."""
+    search = 0
+    if words[0] in ("decide", "build"):
+        states = int(words[OUTCOME[words[0]] + 1]) if words[OUTCOME[words[0]]] in ("never", "built") else int(words[2])
+        search = states * states * 2 ** bytes.fromhex(words[1])[4]
+    return search + len(" ".join(words))
+
+
+def chosen(path):
+    groups = {}
+    for text in open(path):
+        words = text.split()
+        said = words[OUTCOME[words[0]]]
+        number = words[OUTCOME[words[0]] + 1] if said == "refused" else ""
+        if said == "found":
+            said += " at once" if words[-1] == "-" else " later"
+        groups.setdefault((words[0], said, number), []).append(words)
+    for (call, said, number), lines in sorted(groups.items()):
+        lines.sort(key=cost)
+        taken = lines[:WANTED[f"{call} {said}"]]
+        if call in ("read", "write") and lines[-1] not in taken:
+            taken.append(lines[-1])
+        yield from taken
+
+
+if __name__ == "__main__":
+    print(open(__file__.replace("vectors.py", "vectors-head.antt")).read(), end="")
+    by_call = {}
+    for words in chosen(sys.argv[1]):
+        by_call.setdefault(words[0], []).append(line(words))
+    for call, lines in by_call.items():
+        print(f"\nabbrev {call}Vectors : List Line\n{call}Vectors =")
+        print("\n".join(lines) + "\n    []\n")
+        print(f"pub {call}-vectors-hold : given {call}Vectors ≡ wanted {call}Vectors")
+        print(f"unfolding running\n{call}-vectors-hold = refl")
