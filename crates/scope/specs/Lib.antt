@@ -16,4 +16,5 @@ pub mod Running
 pub mod Judging
 pub mod Outcomes
 pub mod Cases
+pub mod Edges
 pub mod Vectors

@@ -1,0 +1,167 @@
+-- The edges of document 01, worked by hand: of two checks that both fail the earlier one counts, each limit and the first number
+-- beyond it, and running, which the outside vectors leave out. One table, one claim.
+use Prim.Native.Nat.{ℕ, _-_}
+use mathlib.Core.Path.{_≡_, refl}
+use mathlib.Core.List.{List, [], _∷_, _++_}
+use lib.ListN.{length, replicate, set}
+use lib.IntN.{ℤ, pos, negsuc}
+use Rattle.scope.specs.declared.Question.{Question}
+use Rattle.scope.specs.declared.ReadAnswer.{ReadAnswer}
+use Rattle.scope.specs.declared.WriteAnswer.{WriteAnswer}
+use Rattle.scope.specs.declared.TruthAnswer.{TruthAnswer}
+use Rattle.scope.specs.declared.SpellAnswer.{SpellAnswer}
+use Rattle.scope.specs.Whole.{joined}
+use Rattle.scope.specs.Question.{emptyQuestion}
+use Rattle.scope.specs.Refusals.{refusal}
+use Rattle.scope.specs.Outcomes.{Outcome, held, wroteBytes, truth, spelling, count, Line, line, given, wanted, marked, reads, writes, judges, spells, runs, bounds, running}
+
+-- ---- bytes of questions over one variable
+
+abbrev head : List ℕ
+head = 1 ∷ 0 ∷ 1 ∷ 0 ∷ 1 ∷ []
+
+abbrev nots : ℕ → List ℕ
+nots k = joined (replicate k (0 ∷ 0 ∷ 0x20 ∷ 0 ∷ []))
+
+abbrev ands : ℕ → List ℕ
+ands k = joined (replicate k (0 ∷ 0 ∷ 0x21 ∷ 0 ∷ []))
+
+-- 0x = 0, and the same k times
+abbrev atom : List ℕ
+atom = 8 ∷ 0 ∷ 0x10 ∷ 0 ∷ 0 ∷ 0 ∷ 0 ∷ 0 ∷ 0 ∷ 0 ∷ 0 ∷ 0 ∷ []
+
+abbrev atoms : ℕ → List ℕ
+atoms k = joined (replicate k atom)
+
+-- the coefficient is two bytes c d, or their negative by two bytes of ones; the constant is 0
+abbrev atomOf : ℕ → ℕ → ℕ → List ℕ
+atomOf c d sign = 8 ∷ 0 ∷ 0x10 ∷ 0 ∷ c ∷ d ∷ sign ∷ sign ∷ 0 ∷ 0 ∷ 0 ∷ 0 ∷ []
+
+-- the constant is three bytes b c d, or their negative by a byte of ones; the coefficient is 0
+abbrev atomAt : ℕ → ℕ → ℕ → ℕ → List ℕ
+atomAt b c d sign = 8 ∷ 0 ∷ 0x11 ∷ 0 ∷ 0 ∷ 0 ∷ 0 ∷ 0 ∷ b ∷ c ∷ d ∷ sign ∷ []
+
+abbrev end : List ℕ
+end = 0 ∷ 0 ∷ 0xFF ∷ 0 ∷ []
+
+-- four ands over four parts of twelve nots and an atom, and nots in the last part: the ninth of those is the 65th node
+abbrev wide : ℕ → List ℕ
+wide last = ands 3 ++ (part ++ (part ++ (ands 1 ++ (part ++ (part ++ nots last)))))
+  where
+    part : List ℕ
+    part = nots 12 ++ atom
+
+-- ---- outcomes
+
+abbrev refusedAt : ℕ → ℕ → Outcome
+refusedAt number place = held (record { answer = ReadAnswer.Refused (refusal number place); question = emptyQuestion })
+
+-- the question with these codes and numbers, and zeros after them
+abbrev over : ℕ → List ℕ → List ℤ → List ℤ → Question
+over n codes coefficients constants = record {
+  n = n;
+  codes = codes ++ replicate (64 - length codes) 0;
+  coefficients = coefficients ++ replicate (48 - length coefficients) (pos 0);
+  constants = constants ++ replicate (8 - length constants) (pos 0);
+}
+
+abbrev accepted : Question → Outcome
+accepted q = held (record { answer = ReadAnswer.Accepted; question = q })
+
+abbrev unwritten : ℕ → ℕ → Outcome
+unwritten number place = wroteBytes (record { answer = WriteAnswer.Refused (refusal number place); buffer = marked 4 })
+
+abbrev refusedTruth : ℕ → ℕ → Outcome
+refusedTruth number place = truth (TruthAnswer.Refused (refusal number place))
+
+abbrev unspelled : ℕ → Outcome
+unspelled number = spelling (SpellAnswer.Refused (refusal number 0))
+
+-- the table of x = 0
+abbrev nought : List ℕ
+nought = 1 ∷ 0 ∷ 1 ∷ 0 ∷ 1 ∷ 1 ∷ []
+
+abbrev edges : List Line
+edges =
+    -- the head
+    line (reads []) (refusedAt 1 0) ∷
+    line (reads (2 ∷ 0 ∷ 9 ∷ [])) (refusedAt 1 0) ∷
+    line (reads (2 ∷ 0 ∷ 9 ∷ 0 ∷ [])) (refusedAt 2 0) ∷
+    line (reads (2 ∷ 0 ∷ 1 ∷ 0 ∷ [])) (refusedAt 3 0) ∷
+    line (reads (1 ∷ 0 ∷ 1 ∷ 0 ∷ [])) (refusedAt 1 0) ∷
+    line (reads (1 ∷ 0 ∷ 1 ∷ 0 ∷ 0 ∷ [])) (refusedAt 4 0) ∷
+    line (reads (1 ∷ 0 ∷ 1 ∷ 0 ∷ 7 ∷ [])) (refusedAt 4 0) ∷
+    -- a node: each check before the next
+    line (reads (head ++ (9 ∷ 9 ∷ 9 ∷ []))) (refusedAt 1 5) ∷
+    line (reads (head ++ (9 ∷ 9 ∷ 9 ∷ 9 ∷ []))) (refusedAt 2 5) ∷
+    line (reads (head ++ (9 ∷ 0 ∷ 0x10 ∷ 0 ∷ []))) (refusedAt 3 5) ∷
+    line (reads (head ++ (nots 16 ++ (8 ∷ 0 ∷ 0x10 ∷ 0 ∷ [])))) (refusedAt 1 69) ∷
+    line (reads (head ++ (nots 16 ++ atomOf 0x88 0x13 0))) (refusedAt 5 69) ∷
+    line (reads (head ++ (nots 15 ++ atomOf 0x88 0x13 0))) (refusedAt 4 65) ∷
+    line (reads (head ++ end)) (refusedAt 2 5) ∷
+    -- the ninth atom, and the 65th node
+    line (reads (head ++ (ands 8 ++ (atoms 8 ++ atomOf 0x88 0x13 0)))) (refusedAt 5 133) ∷
+    line (reads (head ++ (wide 9 ++ atom))) (refusedAt 5 293) ∷
+    -- the limits of a coefficient and of a constant, and the first numbers beyond them
+    line (reads (head ++ (atomOf 0 0x10 0 ++ end))) (accepted (over 1 (1 ∷ []) (pos 4096 ∷ []) [])) ∷
+    line (reads (head ++ (atomOf 1 0x10 0 ++ end))) (refusedAt 4 5) ∷
+    line (reads (head ++ (atomOf 0 0xF0 255 ++ end))) (accepted (over 1 (1 ∷ []) (negsuc 4095 ∷ []) [])) ∷
+    line (reads (head ++ (atomOf 255 0xEF 255 ++ end))) (refusedAt 4 5) ∷
+    line (reads (head ++ (atomAt 0x40 0x42 0x0F 0 ++ end))) (accepted (over 1 (2 ∷ []) [] (pos 1000000 ∷ []))) ∷
+    line (reads (head ++ (atomAt 0x41 0x42 0x0F 0 ++ end))) (refusedAt 4 5) ∷
+    line (reads (head ++ (atomAt 0xC0 0xBD 0xF0 255 ++ end))) (accepted (over 1 (2 ∷ []) [] (negsuc 999999 ∷ []))) ∷
+    line (reads (head ++ (atomAt 0xBF 0xBD 0xF0 255 ++ end))) (refusedAt 4 5) ∷
+    -- the end
+    line (reads (head ++ atom)) (refusedAt 1 17) ∷
+    line (reads (head ++ atoms 2)) (refusedAt 2 17) ∷
+    line (reads (head ++ (atom ++ (1 ∷ 0 ∷ 0xFF ∷ 0 ∷ 0 ∷ [])))) (refusedAt 3 17) ∷
+    line (reads (head ++ (atom ++ (end ++ (0 ∷ []))))) (refusedAt 6 21) ∷
+    -- writing: n, then node by node, then what is left over, then the buffer
+    line (writes (over 0 (9 ∷ []) [] []) 4) (unwritten 4 0) ∷
+    line (writes (over 7 (1 ∷ []) [] []) 4) (unwritten 4 0) ∷
+    line (writes (over 1 [] [] []) 4) (unwritten 2 0) ∷
+    line (writes (over 1 (4 ∷ 1 ∷ 6 ∷ []) [] []) 4) (unwritten 2 2) ∷
+    line (writes (over 1 (replicate 16 3 ++ (1 ∷ [])) (pos 4097 ∷ []) []) 4) (unwritten 5 16) ∷
+    line (writes (over 1 (replicate 8 4 ++ replicate 9 1) (replicate 48 (pos 0)) []) 4) (unwritten 5 16) ∷
+    line (writes (over 1 ((4 ∷ 4 ∷ 4 ∷ []) ++ (part ++ (part ++ (4 ∷ (part ++ (part ++ replicate 8 3)))))) [] []) 4) (unwritten 5 64) ∷
+    line (writes (over 1 (4 ∷ 1 ∷ 1 ∷ 7 ∷ []) (replicate 6 (pos 0) ++ (pos 4097 ∷ [])) []) 4) (unwritten 4 2) ∷
+    line (writes (over 1 (1 ∷ 0 ∷ 7 ∷ []) (pos 1 ∷ pos 1 ∷ []) []) 4) (unwritten 6 2) ∷
+    line (writes (over 1 (1 ∷ []) (pos 1 ∷ pos 1 ∷ []) []) 4) (unwritten 6 64) ∷
+    line (writes (over 1 (1 ∷ []) [] (pos 1 ∷ pos 1 ∷ [])) 4) (unwritten 6 64) ∷
+    line (writes (over 1 (1 ∷ []) [] []) 4) (unwritten 8 0) ∷
+    -- judging: the question first, then the number of values, then each value
+    line (judges (head ++ end) []) (refusedTruth 2 5) ∷
+    line (judges (head ++ (atom ++ end)) []) (refusedTruth 9 0) ∷
+    line (judges (head ++ (atom ++ end)) (1099511627776 ∷ [])) (refusedTruth 9 0) ∷
+    line (judges (head ++ (atom ++ end)) (1099511627775 ∷ [])) (truth TruthAnswer.Yes) ∷
+    -- spelling: 4, then 10, then 9
+    line (spells 0 1 (9 ∷ [])) (unspelled 4) ∷
+    line (spells 2 3 (9 ∷ [])) (unspelled 4) ∷
+    line (spells 2 0 []) (unspelled 4) ∷
+    line (spells 2 2 (replicate 65 4)) (unspelled 10) ∷
+    line (spells 2 2 (replicate 65 3)) (unspelled 9) ∷
+    line (spells 2 2 (replicate 64 3)) (spelling (SpellAnswer.Value 18446744073709551615)) ∷
+    line (spells 6 6 (31 ∷ 32 ∷ 63 ∷ [])) (spelling (SpellAnswer.Value 6)) ∷
+    -- running: 4, then 11, then 10
+    line (runs 7 [] (9 ∷ [])) (refusedTruth 4 0) ∷
+    line (runs 1 [] (9 ∷ [])) (refusedTruth 11 0) ∷
+    line (runs 1 (1 ∷ 0 ∷ []) (9 ∷ [])) (refusedTruth 11 0) ∷
+    line (runs 1 (nought ++ (0 ∷ [])) []) (refusedTruth 11 0) ∷
+    line (runs 1 (set nought 0 2) []) (refusedTruth 11 0) ∷
+    line (runs 1 (set nought 5 2) []) (refusedTruth 11 0) ∷
+    line (runs 1 nought (0 ∷ 2 ∷ [])) (refusedTruth 10 0) ∷
+    line (runs 1 nought []) (truth TruthAnswer.Yes) ∷
+    line (runs 1 nought (0 ∷ 0 ∷ [])) (truth TruthAnswer.Yes) ∷
+    line (runs 1 nought (0 ∷ 1 ∷ 0 ∷ [])) (truth TruthAnswer.No) ∷
+    line (runs 1 nought (replicate 99 0)) (truth TruthAnswer.Yes) ∷
+    -- the bound: of 0x = 0 one number and dead; of x <= 1000000, from -1 on, no dead
+    line (bounds (head ++ (atom ++ end))) (count 2) ∷
+    line (bounds (head ++ ((8 ∷ 0 ∷ 0x11 ∷ 0 ∷ 1 ∷ 0 ∷ 0 ∷ 0 ∷ 0x40 ∷ 0x42 ∷ 0x0F ∷ 0 ∷ []) ++ end))) (count 1000002) ∷
+    []
+  where
+    part : List ℕ
+    part = replicate 12 3 ++ (1 ∷ [])
+
+pub edges-hold : given edges ≡ wanted edges
+unfolding running
+edges-hold = refl
