@@ -1,9 +1,13 @@
-"""Writes crates/scope/specs/Vectors.antt from outside vectors: python3 tools/vectors.py VECTORS > crates/scope/specs/Vectors.antt
+"""Writes the tables of crates/scope/specs/Vectors.antt from outside vectors: python3 tools/vectors.py VECTORS
 
 VECTORS has one call a line with its outcome. Of each call and outcome (for a refusal: of each number) the lines that
 are the quickest to compute are taken, as many as WANTED says, and of reading and writing the longest one too.
 """
 import sys
+
+FILE = "crates/scope/specs/Vectors.antt"
+# what stands in FILE up to this line stays
+MARK = "-- ---- the vectors, as tools/vectors.py writes them\n"
 
 WANTED = {
     "read accepted": 6, "read refused": 3,
@@ -113,12 +117,12 @@ def chosen(path):
 
 
 if __name__ == "__main__":
-    print(open(__file__.replace("vectors.py", "vectors-head.antt")).read(), end="")
+    head = open(FILE).read().split(MARK)[0]
     by_call = {}
     for words in chosen(sys.argv[1]):
         by_call.setdefault(words[0], []).append(line(words))
-    for call, lines in by_call.items():
-        print(f"\nabbrev {call}Vectors : List Line\n{call}Vectors =")
-        print("\n".join(lines) + "\n    []\n")
-        print(f"pub {call}-vectors-hold : given {call}Vectors ≡ wanted {call}Vectors")
-        print(f"unfolding running\n{call}-vectors-hold = refl")
+    with open(FILE, "w") as out:
+        out.write(head + MARK)
+        for call, lines in by_call.items():
+            out.write(f"\nabbrev {call}Vectors : List Line\n{call}Vectors =\n" + "\n".join(lines) + "\n    []\n")
+            out.write(f"\npub {call}-vectors-hold : given {call}Vectors ≡ wanted {call}Vectors\nunfolding running\n{call}-vectors-hold = refl\n")

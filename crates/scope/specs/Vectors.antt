@@ -68,6 +68,8 @@ cellsIn room states cells = table (BuildAnswer.Built states) [] (cells ++ marked
 abbrev noCellsIn : ℕ → ℕ → Outcome
 noCellsIn room states = table (BuildAnswer.NoRoom states) [] (marked room)
 
+-- ---- the vectors, as tools/vectors.py writes them
+
 abbrev buildVectors : List Line
 buildVectors =
     line (buildsCells (1 ∷ 0 ∷ 1 ∷ 0 ∷ 1 ∷ 8 ∷ 0 ∷ 17 ∷ 0 ∷ 254 ∷ 255 ∷ 255 ∷ 255 ∷ 1 ∷ 0 ∷ 0 ∷ 0 ∷ 0 ∷ 0 ∷ 255 ∷ 0 ∷ []) 4) (cellsIn 12 2 (1 ∷ 1 ∷ 0 ∷ 1 ∷ 1 ∷ 0 ∷ [])) ∷
