@@ -3,3 +3,5 @@ pub mod Bridge
 pub mod Integers
 pub mod Half
 pub mod Magnitude
+pub mod Spelling
+pub mod Meaning
