@@ -5,3 +5,4 @@ pub mod Half
 pub mod Magnitude
 pub mod Spelling
 pub mod Meaning
+pub mod Pigeonhole
