@@ -6,3 +6,5 @@ pub mod Magnitude
 pub mod Spelling
 pub mod Meaning
 pub mod Pigeonhole
+pub mod Range
+pub mod Bounded
