@@ -8,3 +8,5 @@ pub mod Meaning
 pub mod Pigeonhole
 pub mod Range
 pub mod Bounded
+pub mod Sums
+pub mod Cells
