@@ -3,19 +3,21 @@
 use mathlib.Core.Path.{_≡_, refl, ap, _∙_, sym}
 use mathlib.Core.Logic.{_≢_, by-cases}
 use mathlib.Core.List.{List, [], _∷_}
-use Prim.Native.Nat.{ℕ, suc, _+_, _*_, _≤_, _<_}
+use Prim.Native.Nat.{ℕ, _+_, _*_, _≤_, _<_}
 use native.Mathlib.Nat.{mul-le-mul-right, suc-mul}
 use native.Mathlib.Decide.{decLt}
 use native.Mathlib.Omega.{arith}
-use lib.Dec.{T}
+use lib.ListN.{length}
 use lib.IntN.{ℤ, pos, natAbs, _+ℤ_, _-ℤ_}
 use lib.Signed.{_≤ℤ_, yes-nonNeg, pos-natAbs}
-use Rattle.scope.specs.Question.{Kind, equation, atMost, Atom}
+use Rattle.scope.specs.declared.Question.{Question}
+use Rattle.scope.specs.Question.{Atom, atomsOf}
 use Rattle.scope.specs.States.{Entry, dead, live, State}
-use Rattle.scope.specs.Bound.{lowest, highest, deads, entryCount, product}
+use Rattle.scope.specs.Bound.{lowest, highest, entryCount, product, bound}
+use Rattle.scope.specs.Numbering.{Rows, machineOf, after, row, wordOf}
 use Rattle.theory.specs.Bridge.{as-D, linear}
 use Rattle.theory.specs.Integers.{≤ℤ-trans}
-use Rattle.theory.specs.Range.{EntryIn, in-dead, in-live, StateIn, in-[], in-∷}
+use Rattle.theory.specs.Range.{EntryIn, in-dead, in-live, StateIn, in-[], in-∷, reached-in}
 use Rattle.theory.specs.Pigeonhole.{pigeonhole}
 
 -- ---- the distance from lo up to k
@@ -91,3 +93,15 @@ pub distinct-in-bound : (ats : List Atom) (k : ℕ) (state : ℕ → State)
 distinct-in-bound ats k state within apart = pigeonhole (λ i. code ats (state i)) k (product ats)
     (λ i h. code-below (within i h))
     (λ i j h b e. apart i j h b (code-injective (within i (omega arith)) (within j b) e))
+
+-- rows of distinct states that their words lead to, as those of `numbered` are
+module _ (q : Question) (l : Rows State) where
+  pub rows-in : ((t : ℕ) → t < length l → after (machineOf q) (machineOf q .start) (wordOf (machineOf q) l t) ≡ row (machineOf q) l t .state)
+      → (t : ℕ) → t < length l → StateIn (atomsOf q) (row (machineOf q) l t .state)
+  rows-in leads t h = rw (leads t h) at (reached-in q (wordOf (machineOf q) l t))
+
+  pub rows-in-bound : ((t : ℕ) → t < length l → after (machineOf q) (machineOf q .start) (wordOf (machineOf q) l t) ≡ row (machineOf q) l t .state)
+      → ((t u : ℕ) → t < u → u < length l → row (machineOf q) l t .state ≢ row (machineOf q) l u .state)
+      → length l ≤ bound q
+  unfolding bound
+  rows-in-bound leads apart = distinct-in-bound (atomsOf q) (length l) (λ t. row (machineOf q) l t .state) (rows-in leads) apart

@@ -1,26 +1,27 @@
 -- Key cells tell states apart: where an atom's numbers fit, an entry in range is far smaller than a dead cell. And what the code's
 -- signed numbers hold: the size of an entry, of a letter's sum and of their difference.
-use mathlib.Core.Path.{_≡_, refl, sym, ap}
+use mathlib.Core.Path.{_≡_, refl, sym, ap, _∙_}
 use mathlib.Core.Logic.{_≢_}
 use mathlib.Core.Bool.{Bool, true, false, cond, _&&_}
 use mathlib.Core.List.{List, [], _∷_, map}
 use Prim.Native.Nat.{ℕ, zero, suc, _+_, _*_, _≤_, _<_}
 use native.Mathlib.Omega.{arith}
-use lib.ListN.{length, take, drop, length-take}
+use lib.Seq.{ext-getD}
+use lib.ListN.{length, getD, take, drop, length-take, length-map}
 use lib.Dec.{T, leb→le}
-use lib.IntN.{ℤ, pos, negsuc, negℤ, natAbs, _-ℤ_}
+use lib.IntN.{ℤ, pos, negℤ, natAbs, _-ℤ_}
 use lib.Signed.{leZ, _≤ℤ_}
-use Rattle.scope.specs.Whole.{all, minZ, maxZ}
+use Rattle.scope.specs.Whole.{all}
 use Rattle.scope.specs.Sizes.{mostVariables, mostCoefficient, mostConstant, coefficientFits, constantFits, numbersFit}
 use Rattle.scope.specs.declared.Question.{Question}
 use Rattle.scope.specs.Question.{Kind, Atom, nodesOf, kindsOf, coefficientsOf, constantOf, atomsFrom, atomsOf, atomCount}
 use Rattle.scope.specs.States.{Entry, dead, live, State, cellOf, cellsOf, deadCell, sumFrom, sumAt}
 use Rattle.scope.specs.Bound.{positives, negatives, lowest, highest}
-use Rattle.theory.specs.Bridge.{as-D, linear}
+use Rattle.theory.specs.Bridge.{linear}
 use Rattle.theory.specs.Integers.{≤ℤ-trans}
 use Rattle.theory.specs.Magnitude.{abs-le, le-abs, abs-sub}
 use Rattle.theory.specs.Sums.{Small, positives-small, negatives-small, sum-fits, sumAt-small}
-use Rattle.theory.specs.Range.{EntryIn, in-dead, in-live, StateIn, in-[], in-∷}
+use Rattle.theory.specs.Range.{EntryIn, in-dead, in-live, StateIn, in-[], in-∷, length-in}
 
 -- ---- atoms that fit
 
@@ -32,6 +33,11 @@ pub record AtomFits (a : Atom) : Type 0 where
 pub data AtomsFit : List Atom → Type 0 where
   fit-[] : AtomsFit []
   fit-∷ : {a : Atom} {ats : List Atom} → AtomFits a → AtomsFit ats → AtomsFit (a ∷ ats)
+
+pub fits-at : {ats : List Atom} → AtomsFit ats → (i : ℕ) (a : Atom) → i < length ats → AtomFits (getD ats i a)
+fits-at fit-[] i a h = absurd (omega arith)
+fits-at (fit-∷ f fs) zero a h = f
+fits-at (fit-∷ f fs) (suc i) a h = fits-at fs i a (omega arith)
 
 both : (s t : Bool) → T (s && t) → T s × T t
 both true t h = (tt, h)
@@ -138,10 +144,6 @@ module _ {a : Atom} (f : AtomFits a) where
 
 -- ---- states
 
-pub length-in : {ats : List Atom} {es : State} → StateIn ats es → length es ≡ length ats
-length-in in-[] = refl
-length-in (in-∷ h s) = ap suc (length-in s)
-
 pub cellsOf-injective : {ats : List Atom} {es es′ : State} → AtomsFit ats → StateIn ats es → StateIn ats es′ → cellsOf es ≡ cellsOf es′ → es ≡ es′
 unfolding cellsOf
 cellsOf-injective fit-[] in-[] in-[] c = refl
@@ -149,3 +151,12 @@ cellsOf-injective (fit-∷ f fs) (in-∷ {e} {es} h s) (in-∷ {e = e′} {es = 
     let first : cellOf e ≡ cellOf e′ = cc in
     let rest : map cellOf es ≡ map cellOf es′ = cc in
     λ i. cellOf-injective f h h′ first i ∷ cellsOf-injective fs s s′ rest i
+
+-- cell by cell
+pub same-cells : {ats : List Atom} {es es′ : State} → AtomsFit ats → StateIn ats es → StateIn ats es′
+    → ((i : ℕ) → i < length ats → getD (cellsOf es) i (pos 0) ≡ getD (cellsOf es′) i (pos 0)) → es ≡ es′
+unfolding cellsOf
+same-cells {ats} {es} {es′} fs s s′ same =
+    let n : length (map cellOf es) ≡ length ats = length-map es cellOf ∙ length-in s in
+    let n′ : length (map cellOf es′) ≡ length ats = length-map es′ cellOf ∙ length-in s′ in
+    cellsOf-injective fs s s′ (ext-getD (pos 0) (map cellOf es) (map cellOf es′) (n ∙ sym n′) (λ i h. same i (omega arith)))

@@ -1,11 +1,12 @@
 -- The range of an entry: a letter's sum lies between -N and P, so an entry lies between `lowest` and `highest`, or is dead where its
 -- atom is an equation; and so does every entry of a state that a word leads to.
-use mathlib.Core.Path.{_≡_, refl}
+use mathlib.Core.Path.{_≡_, refl, ap}
 use mathlib.Core.Bool.{Bool, true, false, cond}
 use mathlib.Core.List.{List, [], _∷_}
-use Prim.Native.Nat.{ℕ, suc, _+_}
+use Prim.Native.Nat.{ℕ, zero, suc, _+_, _<_}
 use native.Mathlib.Nat.{zero-add}
 use native.Mathlib.Omega.{arith}
+use lib.ListN.{length, getD}
 use lib.Dec.{eqb}
 use lib.IntN.{ℤ, pos, negsuc, negℤ, _+ℤ_, _-ℤ_}
 use lib.Signed.{_≤ℤ_, ≤ℤ-refl}
@@ -104,6 +105,15 @@ step-in {a} letter (in-live {k} l h) = halved-in a (a .kind) (k -ℤ sumAt (a .c
 pub data StateIn : List Atom → State → Type 0 where
   in-[] : StateIn [] []
   in-∷ : {a : Atom} {ats : List Atom} {e : Entry} {es : State} → EntryIn a e → StateIn ats es → StateIn (a ∷ ats) (e ∷ es)
+
+pub length-in : {ats : List Atom} {es : State} → StateIn ats es → length es ≡ length ats
+length-in in-[] = refl
+length-in (in-∷ h s) = ap suc (length-in s)
+
+pub entry-in : {ats : List Atom} {es : State} → StateIn ats es → (i : ℕ) (a : Atom) (e : Entry) → i < length ats → EntryIn (getD ats i a) (getD es i e)
+entry-in in-[] i a e h = absurd (omega arith)
+entry-in (in-∷ h s) zero a e b = h
+entry-in (in-∷ h s) (suc i) a e b = entry-in s i a e (omega arith)
 
 pub startOf-in : (ats : List Atom) → StateIn ats (startOf ats)
 unfolding startOf
