@@ -10,3 +10,8 @@ pub mod Range
 pub mod Bounded
 pub mod Sums
 pub mod Cells
+pub mod Order
+pub mod Lawful
+pub mod Prefix
+pub mod Table
+pub mod Firsts

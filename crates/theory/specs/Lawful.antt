@@ -1,0 +1,52 @@
+-- A machine whose `same` tests equality, as the numbering's laws ask from `has` on; a question's machine is one.
+use mathlib.Core.Path.{_≡_, refl, sym, ap, ap₂}
+use mathlib.Core.Bool.{Bool, true, false, _&&_, true≢false}
+use mathlib.Core.List.{[], _∷_}
+use lib.Dec.{T}
+use Rattle.scope.specs.declared.Question.{Question}
+use Rattle.scope.specs.Whole.{eqZ}
+use Rattle.scope.specs.States.{Entry, dead, live, State, sameEntry, sameState}
+use Rattle.scope.specs.Numbering.{Machine, machineOf}
+use Rattle.theory.specs.Integers.{eqZ→eq, eq→eqZ}
+
+pub record Lawful {S : Type 0} (m : Machine S) : Type 0 where
+  pub same-sound : (s t : S) → m .same s t ≡ true → s ≡ t
+  pub same-refl : (s : S) → m .same s s ≡ true
+
+T-true : (b : Bool) → T b → b ≡ true
+T-true true t = refl
+T-true false t = absurd t
+
+and-true : (a b : Bool) → a && b ≡ true → (a ≡ true) × (b ≡ true)
+and-true true b e = (refl, e)
+and-true false b e = absurd (true≢false (sym e))
+
+pub same-entry-sound : (d e : Entry) → sameEntry d e ≡ true → d ≡ e
+unfolding sameEntry
+same-entry-sound dead dead p = refl
+same-entry-sound dead (live k) p = absurd (true≢false (sym p))
+same-entry-sound (live k) dead p = absurd (true≢false (sym p))
+same-entry-sound (live k) (live h) p = ap live (eqZ→eq k h (rw p tt))
+
+pub same-entry-refl : (d : Entry) → sameEntry d d ≡ true
+unfolding sameEntry
+same-entry-refl dead = refl
+same-entry-refl (live k) = T-true (eqZ k k) (eq→eqZ k k refl)
+
+pub same-state-sound : (s t : State) → sameState s t ≡ true → s ≡ t
+unfolding sameState
+same-state-sound [] [] p = refl
+same-state-sound [] (e ∷ es) p = absurd (true≢false (sym p))
+same-state-sound (d ∷ ds) [] p = absurd (true≢false (sym p))
+same-state-sound (d ∷ ds) (e ∷ es) p =
+    let b = and-true (sameEntry d e) (sameState ds es) p in
+    ap₂ _∷_ (same-entry-sound d e (b .0)) (same-state-sound ds es (b .1))
+
+pub same-state-refl : (s : State) → sameState s s ≡ true
+unfolding sameState
+same-state-refl [] = refl
+same-state-refl (d ∷ ds) = rw (same-entry-refl d, same-state-refl ds)
+
+pub machine-lawful : (q : Question) → Lawful (machineOf q)
+unfolding machineOf
+machine-lawful q = record { same-sound = same-state-sound; same-refl = same-state-refl }
