@@ -2,7 +2,7 @@
 use mathlib.Core.Path.{_≡_, refl, sym, ap, ap₂}
 use mathlib.Core.Bool.{Bool, true, false, _&&_, true≢false}
 use mathlib.Core.List.{[], _∷_}
-use lib.Dec.{T}
+use lib.Ieee.Bits.{is-true}
 use Rattle.scope.specs.declared.Question.{Question}
 use Rattle.scope.specs.Whole.{eqZ}
 use Rattle.scope.specs.States.{Entry, dead, live, State, sameEntry, sameState}
@@ -12,10 +12,6 @@ use Rattle.theory.specs.Integers.{eqZ→eq, eq→eqZ}
 pub record Lawful {S : Type 0} (m : Machine S) : Type 0 where
   pub same-sound : (s t : S) → m .same s t ≡ true → s ≡ t
   pub same-refl : (s : S) → m .same s s ≡ true
-
-T-true : (b : Bool) → T b → b ≡ true
-T-true true t = refl
-T-true false t = absurd t
 
 and-true : (a b : Bool) → a && b ≡ true → (a ≡ true) × (b ≡ true)
 and-true true b e = (refl, e)
@@ -31,7 +27,7 @@ same-entry-sound (live k) (live h) p = ap live (eqZ→eq k h (rw p tt))
 pub same-entry-refl : (d : Entry) → sameEntry d d ≡ true
 unfolding sameEntry
 same-entry-refl dead = refl
-same-entry-refl (live k) = T-true (eqZ k k) (eq→eqZ k k refl)
+same-entry-refl (live k) = is-true (eqZ k k) (eq→eqZ k k refl)
 
 pub same-state-sound : (s t : State) → sameState s t ≡ true → s ≡ t
 unfolding sameState

@@ -15,3 +15,4 @@ pub mod Lawful
 pub mod Prefix
 pub mod Table
 pub mod Firsts
+pub mod Verdicts

@@ -5,7 +5,11 @@ use mathlib.Core.Bool.{Bool, true, false}
 use mathlib.Core.List.{[], _∷_, _++_, append-assoc, append-nil}
 use native.Mathlib.Nat.{add-suc, add-zero, add-sub-of-le}
 use native.Mathlib.Omega.{arith}
+use native.Mathlib.Decide.{decLt}
+use mathlib.Core.Logic.{by-cases}
 use lib.ListN.{length, length-append, List·getD-append}
+use lib.Dec.{leb, le→leb}
+use lib.Ieee.Bits.{is-true}
 use Rattle.scope.specs.Numbering.{Machine, Row, Rows, startRow, row, addedIf, tried, triedAll, expandedIf, numbered}
 
 pub record Prefix {S : Type 0} (l l′ : Rows S) : Type 0 where
@@ -45,7 +49,6 @@ module _ {S : Type 0} (m : Machine S) where
   expandedIf-prefix true l i = prefix-refl l
   expandedIf-prefix false l i = triedAll-prefix l i 0 (m .letters)
 
-  -- FACT 1
   pub numbered-prefix : (f g : ℕ) → Prefix (numbered m f) (numbered m (f + g))
   unfolding numbered
   numbered-prefix f zero = rw add-zero (prefix-refl _)
@@ -53,3 +56,25 @@ module _ {S : Type 0} (m : Machine S) where
 
   pub numbered-prefix-le : {f g : ℕ} → f ≤ g → Prefix (numbered m f) (numbered m g)
   numbered-prefix-le {f} {g} h = rw (add-sub-of-le h) at (numbered-prefix f (g - f))
+
+  -- ---- where every row is expanded, no row comes any more
+
+  full : (l : Rows S) (i : ℕ) → length l ≤ i → expandedIf m (leb (length l) i) l i ≡ l
+  unfolding expandedIf
+  full l i h = rw (is-true (leb (length l) i) (le→leb (length l) i h))
+
+  pub numbered-stays : (r g : ℕ) → length (numbered m r) ≤ r → numbered m (r + g) ≡ numbered m r
+  unfolding numbered
+  numbered-stays r zero h = rw add-zero
+  numbered-stays r (suc g) h = let e = numbered-stays r g h in rw (add-suc, e) (full (numbered m r) (r + g) (omega arith))
+
+  pub numbered-stays-le : {r r′ : ℕ} → r ≤ r′ → length (numbered m r) ≤ r → numbered m r′ ≡ numbered m r
+  numbered-stays-le {r} {r′} g h = rw (add-sub-of-le g) at (numbered-stays r (r′ - r) h)
+
+  -- a row has come by the time that the rows before it are expanded
+  pub numbered-by : (f t : ℕ) → t < length (numbered m f) → t < length (numbered m t)
+  numbered-by f t h =
+      by-cases (decLt t (length (numbered m t))) (λ p. p)
+      (λ p. let q : length (numbered m t) ≤ t = omega arith in
+      by-cases (decLt f t) (λ x. let y : f ≤ t = omega arith in omega (arith, prefix-length (numbered-prefix-le y)))
+      (λ x. let y : t ≤ f = omega arith in absurd (let z = rw (numbered-stays-le y q) at h in omega arith)))
