@@ -16,3 +16,7 @@ pub mod Prefix
 pub mod Table
 pub mod Firsts
 pub mod Verdicts
+pub mod Pigeonhole
+pub mod Numbers
+pub mod Reachable
+pub mod FirstWords

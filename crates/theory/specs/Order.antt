@@ -43,6 +43,10 @@ pub ≺-irrefl : {u : Word} → ¬ (u ≺ u)
 ≺-irrefl (shorter p) = omega arith
 ≺-irrefl (lexed r) = lex-irrefl r
 
+pub ≼-not-≻ : {u v : Word} → u ≼ v → ¬ (v ≺ u)
+≼-not-≻ (equal e) q = ≺-irrefl (rw e at q)
+≼-not-≻ (less p) q = ≺-irrefl (≺-trans p q)
+
 pub ≼-antisym : {u v : Word} → u ≼ v → v ≼ u → u ≡ v
 ≼-antisym (equal e) q = e
 ≼-antisym (less p) (equal e) = sym e

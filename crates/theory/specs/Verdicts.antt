@@ -2,7 +2,7 @@
 -- that more rows keep found and never, the words and the rows counted.
 use Prim.Native.Nat.{ℕ, zero, suc, _+_, _-_, _≤_, _<_}
 use mathlib.Core.Path.{_≡_, refl, sym, _∙_}
-use mathlib.Core.Logic.{_≢_, by-cases}
+use mathlib.Core.Logic.{_↔_, _≢_, by-cases}
 use mathlib.Core.Bool.{Bool, true, false, true≢false}
 use mathlib.Core.Option.{Option, none, some}
 use mathlib.Core.List.{[], _∷_}
@@ -113,6 +113,7 @@ module _ {S : Type 0} (m : Machine S) where
     -- every word leads to one of at most r rows, and none is accepted
     pub record Never : Type 0 where
       pub room : length (numbered m r) ≤ r
+      pub none-accepts : NoneOf (numbered m r) (length (numbered m r))
       pub every : {v : Word} → Over (m .letters) v → HasRow m (numbered m r) (after m (m .start) v)
       pub none-accepted : {v : Word} → Over (m .letters) v → ¬ Accepted v
 
@@ -150,7 +151,7 @@ module _ {S : Type 0} (m : Machine S) (ok : Lawful m) where
       }
 
   judged-never : {r : ℕ} → Judged m r (numbered m r) never → Never m r
-  judged-never {r} (is-never p n) = record { room = p; every = every; none-accepted = λ o b. let h = every o in false-not-true (n (h .at) (h .inside)) (rw (h .is) b) }
+  judged-never {r} (is-never p n) = record { room = p; none-accepts = n; every = every; none-accepted = λ o b. let h = every o in false-not-true (n (h .at) (h .inside)) (rw (h .is) b) }
     where
       every : {v : Word} → Over (m .letters) v → HasRow m (numbered m r) (after m (m .start) v)
       every o = closed m (numbered-table m ok r) p o
@@ -166,14 +167,15 @@ module _ {S : Type 0} (m : Machine S) (ok : Lawful m) where
         none-accepted = λ t h b. false-not-true (n t h) (rw (after-word m k t (omega arith)) at b);
       }
 
-  pub verdict-found : {r w : ℕ} → verdict m r (numbered m r) ≡ found w → Found m r w
-  verdict-found {r} e = judged-found (rw e at (judged m r (numbered m r)))
+  pub found-iff : (r w : ℕ) → (verdict m r (numbered m r) ≡ found w) ↔ Found m r w
+  found-iff r w =
+      (λ e. judged-found (rw e at (judged m r (numbered m r))), λ k. verdict-by m (is-found w (k .room) (k .inside) (k .accepts) (k .smallest)))
 
-  pub verdict-never : {r : ℕ} → verdict m r (numbered m r) ≡ never → Never m r
-  verdict-never {r} e = judged-never (rw e at (judged m r (numbered m r)))
+  pub never-iff : (r : ℕ) → (verdict m r (numbered m r) ≡ never) ↔ Never m r
+  never-iff r = (λ e. judged-never (rw e at (judged m r (numbered m r))), λ k. verdict-by m (is-never (k .room) (k .none-accepts)))
 
-  pub verdict-noRoom : {r : ℕ} → verdict m r (numbered m r) ≡ noRoom → NoRoom m r
-  verdict-noRoom {r} e = judged-noRoom (rw e at (judged m r (numbered m r)))
+  pub noRoom-iff : (r : ℕ) → (verdict m r (numbered m r) ≡ noRoom) ↔ NoRoom m r
+  noRoom-iff r = (λ e. judged-noRoom (rw e at (judged m r (numbered m r))), λ k. verdict-by m (is-noRoom (k .more) (k .none-accepts)))
 
 -- ---- more rows keep found and never
 
@@ -210,4 +212,4 @@ module _ {S : Type 0} (m : Machine S) {r r′ : ℕ} (more : r ≤ r′) where
   -- and the same word
   pub found-word-stays : Lawful m → {w : ℕ} → verdict m r (numbered m r) ≡ found w → wordOf m (numbered m r′) w ≡ wordOf m (numbered m r) w
   found-word-stays ok {w} e =
-      prefix-word m kept (numbered-rooted m ok r) (numbered-rooted m ok r′) w (verdict-found m ok e .inside)
+      prefix-word m kept (numbered-rooted m ok r) (numbered-rooted m ok r′) w (found-iff m ok r w .0 e .inside)
