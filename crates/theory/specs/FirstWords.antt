@@ -9,7 +9,7 @@ use native.Mathlib.Omega.{arith}
 use lib.ListN.{length, getD, length-map}
 use lib.Seq.{ext-getD}
 use Rattle.scope.specs.Words.{Word, _≺_, _≼_, equal, less, Over}
-use Rattle.scope.specs.Numbering.{Machine, row, after, numbered, wordOf}
+use Rattle.scope.specs.Numbering.{Machine, after, numbered, wordOf}
 use Rattle.theory.specs.Order.{≼-trans, ≼-total, ≼-antisym, ≼-not-≻}
 use Rattle.theory.specs.Lawful.{Lawful}
 use Rattle.theory.specs.Prefix.{prefix-length, prefix-row, numbered-prefix-le}
@@ -65,37 +65,33 @@ module _ {S : Type 0} (m : Machine S) where
         (states-agree (suc t) t (omega arith) p q, words-agree t p q (λ i x. states-agree t i x (omega arith) (omega arith)))
 
   -- and where both have every state that a word leads to, they are one
-  pub record Whole (states : List S) : Type 0 where
+  pub record EveryState (states : List S) : Type 0 where
     pub firsts : FirstWords states
     pub each : (w : Word) → Over (m .letters) w → Among m states (length states) w
 
-  whole-longest : {A B : List S} → Whole A → FirstWords B → length B ≤ length A
-  whole-longest {A} j k =
+  every-longest : {A B : List S} → EveryState A → FirstWords B → length B ≤ length A
+  every-longest {A} j k =
       distinct-few m (record { states = A; few = le-refl _; each = j .each }) (k .word) (k .over)
       (λ t u p h. rw (k .leads t (omega arith), k .leads u h) (k .apart t u p h))
 
-  pub whole-unique : {A B : List S} → Whole A → Whole B → A ≡ B
-  whole-unique {A} {B} j k =
-      let e : length A ≡ length B = omega (arith, whole-longest j (k .firsts), whole-longest k (j .firsts)) in
+  pub every-state-unique : {A B : List S} → EveryState A → EveryState B → A ≡ B
+  every-state-unique {A} {B} j k =
+      let e : length A ≡ length B = omega (arith, every-longest j (k .firsts), every-longest k (j .firsts)) in
       ext-getD (m .start) A B e (λ t h. first-words-unique (j .firsts) (k .firsts) t h (omega arith) .0)
 
 -- ---- the rows are listed by their first words
 
 module _ {S : Type 0} (m : Machine S) (ok : Lawful m) (f : ℕ) where
-  -- a word up to row t's leads to a row up to t
-  pub record UpTo (t : ℕ) (v : Word) : Type 0 where
-    pub at : ℕ
-    pub up-to : at ≤ t
-    pub is : row m (numbered m f) at .state ≡ after m (m .start) v
-
-  pub none-left-out : (t : ℕ) → t < length (numbered m f) → (v : Word) → Over (m .letters) v → v ≼ wordOf m (numbered m f) t → UpTo t v
+  -- a word up to row t's leads to the state of a row up to t
+  pub none-left-out : (t : ℕ) → t < length (numbered m f) → (v : Word) → Over (m .letters) v → v ≼ wordOf m (numbered m f) t
+      → Among m (statesOf m (numbered m f)) (suc t) v
   none-left-out t h v o q =
       let r = reached m ok f o in
       let p = numbered-prefix-le m (r .later) in
       let k = numbered-rooted m ok (r .stage) in
       let w : wordOf m (numbered m (r .stage)) (r .at) ≼ wordOf m (numbered m (r .stage)) t = rw (prefix-word m p (numbered-rooted m ok f) k t h) (≼-trans (r .first) q) in
       let u : r .at ≤ t = by-cases (decLt t (r .at)) (λ x. absurd (≼-not-≻ w (words-increase m k t (r .at) x (r .inside)))) (λ x. omega arith) in
-      record { at = r .at; up-to = u; is = rw (← (prefix-row m (r .at) p (omega arith))) (r .is) }
+      record { at = r .at; inside = omega arith; is = rw (states-row m, ← (prefix-row m (r .at) p (omega arith))) (r .is) }
 
   pub numbered-first-words : FirstWords m (statesOf m (numbered m f))
   numbered-first-words = record {
@@ -109,14 +105,14 @@ module _ {S : Type 0} (m : Machine S) (ok : Lawful m) (f : ℕ) where
       k : Rooted m (numbered m f)
       k = numbered-rooted m ok f
 
+      -- row t's own word is the first that leads to it
       before : (t : ℕ) → t < length (numbered m f) → (v : Word) → Over (m .letters) v → v ≺ wordOf m (numbered m f) t → Among m (statesOf m (numbered m f)) t v
-      before t h v o q =
-          let b = none-left-out t h v o (less q) in
-          record { at = b .at; inside = strict b; is = rw (states-row m) (b .is) }
+      before t h v o q = let b = none-left-out t h v o (less q) in record { at = b .at; inside = strict b; is = b .is }
         where
-          strict : (b : UpTo t v) → b .at < t
-          strict b = by-cases (decLt (b .at) t) (λ p. p)
-              (λ p. let e : b .at ≡ t = omega arith in absurd (≼-not-≻ (first-word m ok f t h o (rw (← e) (sym (b .is)))) q))
+          strict : (b : Among m (statesOf m (numbered m f)) (suc t) v) → b .at < t
+          strict b =
+              by-cases (decLt (b .at) t) (λ p. p)
+              (λ p. let e : b .at ≡ t = omega arith in absurd (≼-not-≻ (first-word m ok f t h o (rw (e, states-row m) at (sym (b .is)))) q))
 
-  pub numbered-whole : length (numbered m f) ≤ f → Whole m (statesOf m (numbered m f))
-  numbered-whole h = record { firsts = numbered-first-words; each = rows-each m ok f h }
+  pub numbered-every-state : length (numbered m f) ≤ f → EveryState m (statesOf m (numbered m f))
+  numbered-every-state h = record { firsts = numbered-first-words; each = rows-each m ok f h }

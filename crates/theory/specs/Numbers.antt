@@ -37,16 +37,12 @@ module _ {S : Type 0} (m : Machine S) (ok : Lawful m) where
       let n = number-at l (row m l t .state) t h refl in
       row-unique m k (numberOf m l (row m l t .state)) t (n .inside) h (n .is)
 
-  -- ---- the targets of the rows that are expanded, and of all rows where all are
+  -- ---- the targets of the rows that are expanded have numbers; where every row is, so has every state that a word leads to
 
   pub number-step : (f j b : ℕ) → j < f → j < length (numbered m f) → b < m .letters → HasNumber m (numbered m f) (m .step (row m (numbered m f) j .state) b)
   number-step f j b h p q =
       let c = numbered-table m ok f .covered j b p q (earlier h) in
       row-number (record { at = c .at; inside = c .inside; is = c .target })
-
-  pub number-step-closed : (f j b : ℕ) → length (numbered m f) ≤ f → j < length (numbered m f) → b < m .letters
-      → HasNumber m (numbered m f) (m .step (row m (numbered m f) j .state) b)
-  number-step-closed f j b g p q = number-step f j b (omega arith) p q
 
   pub number-word : (f : ℕ) → length (numbered m f) ≤ f → {w : Word} → Over (m .letters) w → HasNumber m (numbered m f) (after m (m .start) w)
   number-word f g o = row-number (closed m (numbered-table m ok f) g o)

@@ -1,12 +1,13 @@
--- What is numbered stays numbered: the rows after fewer expansions are the first of the rows after more.
+-- What is numbered stays numbered: the rows after fewer expansions are the first of the rows after more, and where every row is
+-- expanded they are all.
 use Prim.Native.Nat.{ℕ, zero, suc, _+_, _-_, _≤_, _<_}
 use mathlib.Core.Path.{_≡_, refl, sym, _∙_}
+use mathlib.Core.Logic.{by-cases}
 use mathlib.Core.Bool.{Bool, true, false}
 use mathlib.Core.List.{[], _∷_, _++_, append-assoc, append-nil}
+use native.Mathlib.Decide.{decLt}
 use native.Mathlib.Nat.{add-suc, add-zero, add-sub-of-le}
 use native.Mathlib.Omega.{arith}
-use native.Mathlib.Decide.{decLt}
-use mathlib.Core.Logic.{by-cases}
 use lib.ListN.{length, length-append, List·getD-append}
 use lib.Dec.{leb, le→leb}
 use lib.Ieee.Bits.{is-true}
@@ -71,10 +72,12 @@ module _ {S : Type 0} (m : Machine S) where
   pub numbered-stays-le : {r r′ : ℕ} → r ≤ r′ → length (numbered m r) ≤ r → numbered m r′ ≡ numbered m r
   numbered-stays-le {r} {r′} g h = rw (add-sub-of-le g) at (numbered-stays r (r′ - r) h)
 
-  -- a row has come by the time that the rows before it are expanded
+  -- row t is there once the rows before it are expanded
   pub numbered-by : (f t : ℕ) → t < length (numbered m f) → t < length (numbered m t)
-  numbered-by f t h =
-      by-cases (decLt t (length (numbered m t))) (λ p. p)
-      (λ p. let q : length (numbered m t) ≤ t = omega arith in
-      by-cases (decLt f t) (λ x. let y : f ≤ t = omega arith in omega (arith, prefix-length (numbered-prefix-le y)))
-      (λ x. let y : t ≤ f = omega arith in absurd (let z = rw (numbered-stays-le y q) at h in omega arith)))
+  numbered-by f t h = by-cases (decLt t (length (numbered m t))) (λ p. p) (λ p. by-cases (decLt f t) sooner (λ x. later (omega arith) (omega arith)))
+    where
+      sooner : f < t → t < length (numbered m t)
+      sooner x = let y : f ≤ t = omega arith in omega (arith, prefix-length (numbered-prefix-le y))
+
+      later : t ≤ f → length (numbered m t) ≤ t → t < length (numbered m t)
+      later y q = rw (numbered-stays-le y q) at h

@@ -81,7 +81,7 @@ module _ {S : Type 0} (m : Machine S) (ok : Lawful m) where
       go true p q ih = record { at = 0; inside = omega arith; is = ok .same-sound (r .state) s p }
       go false p q ih = let h = ih q in record { at = suc (h .at); inside = omega arith; is = h .is }
 
-  has-false : (l : Rows S) (s : S) → has m l s ≡ false → (t : ℕ) → t < length l → row m l t .state ≢ s
+  pub has-false : (l : Rows S) (s : S) → has m l s ≡ false → (t : ℕ) → t < length l → row m l t .state ≢ s
   unfolding has
   has-false [] s e t h d = omega arith
   has-false (r ∷ l) s e zero h d = let x = or-false (m .same (r .state) s) (has m l s) e .0 in true≢false (sym (ok .same-refl s) ∙ (rw d at x))
