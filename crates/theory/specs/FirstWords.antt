@@ -12,7 +12,7 @@ use Rattle.scope.specs.Words.{Word, _≺_, _≼_, equal, less, Over}
 use Rattle.scope.specs.Numbering.{Machine, after, numbered, wordOf}
 use Rattle.theory.specs.Order.{≼-trans, ≼-total, ≼-antisym, ≼-not-≻}
 use Rattle.theory.specs.Lawful.{Lawful}
-use Rattle.theory.specs.Prefix.{prefix-length, prefix-row, numbered-prefix-le}
+use Rattle.theory.specs.Prefix.{prefix-row, numbered-prefix-le}
 use Rattle.theory.specs.Table.{Rooted, numbered-rooted}
 use Rattle.theory.specs.Firsts.{after-word, word-over, words-increase, prefix-word, reached, first-word}
 use Rattle.theory.specs.Reachable.{statesOf, states-row, Among, distinct-few, rows-each}

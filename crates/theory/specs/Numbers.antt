@@ -1,14 +1,14 @@
 -- The number of a state: `numberOf` names the state's row where there is one, and the targets of expanded rows have rows.
 use Prim.Native.Nat.{ℕ, zero, suc, _≤_, _<_}
-use mathlib.Core.Path.{_≡_, sym, ap, _∙_, refl}
-use mathlib.Core.Bool.{Bool, true, false, true≢false}
+use mathlib.Core.Path.{_≡_, refl}
+use mathlib.Core.Bool.{Bool, true, false}
 use mathlib.Core.List.{[], _∷_}
 use native.Mathlib.Omega.{arith}
 use lib.ListN.{length}
 use Rattle.scope.specs.Words.{Word, Over}
 use Rattle.scope.specs.Numbering.{Machine, Rows, row, after, numberIf, numbered, numberOf}
 use Rattle.theory.specs.Lawful.{Lawful}
-use Rattle.theory.specs.Table.{earlier, Rooted, HasRow, numbered-table, numbered-rooted}
+use Rattle.theory.specs.Table.{earlier, Rooted, HasRow, numbered-table}
 use Rattle.theory.specs.Firsts.{row-unique, closed}
 
 -- the row of a state's number is the state's

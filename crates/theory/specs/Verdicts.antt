@@ -1,6 +1,6 @@
 -- What the verdict over r rows says: found, never and no room, each by what it was given by and by what it means for words; and
 -- that more rows keep found and never, the words and the rows counted.
-use Prim.Native.Nat.{ℕ, zero, suc, _+_, _-_, _≤_, _<_}
+use Prim.Native.Nat.{ℕ, zero, suc, _≤_, _<_}
 use mathlib.Core.Path.{_≡_, refl, sym, _∙_}
 use mathlib.Core.Logic.{_↔_, _≢_, by-cases}
 use mathlib.Core.Bool.{Bool, true, false, true≢false}
@@ -18,7 +18,7 @@ use Rattle.scope.specs.Deciding.{Verdict, found, never, noRoom, verdictBy, verd
 use Rattle.theory.specs.Order.{≼-trans}
 use Rattle.theory.specs.Lawful.{Lawful}
 use Rattle.theory.specs.Prefix.{Prefix, prefix-length, prefix-row, numbered-prefix-le, numbered-stays-le}
-use Rattle.theory.specs.Table.{Rooted, HasRow, numbered-table, numbered-rooted}
+use Rattle.theory.specs.Table.{HasRow, numbered-table, numbered-rooted}
 use Rattle.theory.specs.Firsts.{after-word, word-over, words-not-decrease, prefix-word, closed, reached}
 
 false-not-true : {b : Bool} → b ≡ false → b ≡ true → ⊥
