@@ -14,6 +14,7 @@ pub mod Table
 pub mod Firsts
 pub mod Numbers
 pub mod Verdicts
+pub mod Exploring
 pub mod Simulation
 pub mod Pigeonhole
 pub mod Reachable

@@ -10,6 +10,7 @@ use Rattle.scope.specs.Whole.{joined}
 use Rattle.scope.specs.Numbering.{Machine, Row, Rows, startRow, row, has, addedIf, tried, triedAll, expandedIf, numbered, firstIf, firstAccepting, numberIf, numberOf, wordWithin, wordOf}
 use Rattle.scope.specs.Deciding.{Verdict, found, never, noRoom, verdict, counted}
 use Rattle.scope.specs.Building.{nextStates, tableRow, tableCells}
+use Rattle.theory.specs.Exploring.{partial}
 
 -- m′ does at h s what m does at s, for every s that is good; the start is, and steps keep it
 pub record Simulates {S S′ : Type 0} (m : Machine S) (m′ : Machine S′) (h : S → S′) (Good : S → Type 0) : Type 0 where
@@ -145,12 +146,12 @@ module _ {S S′ : Type 0} {m : Machine S} {m′ : Machine S′} {h : S → S′
   numbered-maps zero = rw start-maps
   numbered-maps (suc f) = rw (numbered-maps f, length-map (numbered m f) (rowMap h)) (expandedIf-maps _ f (numbered-good f))
 
-  -- in the middle of a row too: n letters of row i are tried
-  pub middle-good : (i n : ℕ) → n ≤ m .letters → AllGood Good (triedAll m (numbered m i) i 0 n)
-  middle-good i n p = triedAll-good i 0 n (omega arith) (numbered-good i)
+  -- in the middle of a row too
+  pub partial-good : (i a : ℕ) → a ≤ m .letters → AllGood Good (partial m i a)
+  partial-good i a p = triedAll-good i 0 a (omega arith) (numbered-good i)
 
-  pub middle-maps : (i n : ℕ) → n ≤ m .letters → triedAll m′ (numbered m′ i) i 0 n ≡ rowsMap h (triedAll m (numbered m i) i 0 n)
-  middle-maps i n p = rw (numbered-maps i) (triedAll-maps i 0 n (omega arith) (numbered-good i))
+  pub partial-maps : (i a : ℕ) → a ≤ m .letters → partial m′ i a ≡ rowsMap h (partial m i a)
+  partial-maps i a p = rw (numbered-maps i) (triedAll-maps i 0 a (omega arith) (numbered-good i))
 
   -- ---- what is read off any good rows: the verdict, words, numbers, and the table
 
