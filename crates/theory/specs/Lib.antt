@@ -22,3 +22,5 @@ pub mod FirstWords
 pub mod Range
 pub mod Bounded
 pub mod Cells
+pub mod Checks
+pub mod Lockstep
