@@ -24,3 +24,4 @@ pub mod Bounded
 pub mod Cells
 pub mod Checks
 pub mod Lockstep
+pub mod Octets
