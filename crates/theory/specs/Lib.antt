@@ -25,3 +25,4 @@ pub mod Cells
 pub mod Checks
 pub mod Lockstep
 pub mod Octets
+pub mod Records
