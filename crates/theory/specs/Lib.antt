@@ -26,3 +26,5 @@ pub mod Checks
 pub mod Lockstep
 pub mod Octets
 pub mod Records
+pub mod Held
+pub mod Noting
