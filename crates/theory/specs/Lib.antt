@@ -28,3 +28,4 @@ pub mod Octets
 pub mod Records
 pub mod Held
 pub mod Noting
+pub mod ReadingSteps
