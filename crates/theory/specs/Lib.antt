@@ -29,3 +29,4 @@ pub mod Records
 pub mod Held
 pub mod Noting
 pub mod ReadingSteps
+pub mod WritingSteps
