@@ -30,3 +30,4 @@ pub mod Held
 pub mod Noting
 pub mod ReadingSteps
 pub mod WritingSteps
+pub mod Sound
