@@ -31,3 +31,4 @@ pub mod Noting
 pub mod ReadingSteps
 pub mod WritingSteps
 pub mod Sound
+pub mod Meeting

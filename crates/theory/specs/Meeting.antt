@@ -1,0 +1,57 @@
+-- Where reading stands at a node and writing stands at the same node: what the one checks the other does, and both grow to one shape.
+use mathlib.Core.Path.{_≡_, refl, sym, ap, _∙_, subst}
+use mathlib.Core.Bool.{Bool, true, false, not, cond}
+use mathlib.Core.List.{List, [], _∷_, _++_}
+use Prim.Native.Nat.{ℕ, zero, suc, _+_, _*_, _≤_, _<_}
+use native.Mathlib.Omega.{arith}
+use lib.Dec.{T}
+use lib.ListN.{length, getD, length-append}
+use lib.IntN.{ℤ}
+use Rattle.scope.specs.declared.Question.{Question}
+use Rattle.scope.specs.Sizes.{numbersFit}
+use Rattle.scope.specs.Question.{Node, nodeOf, isUnused, isAtom, coefficientsOf, constantOf}
+use Rattle.scope.specs.Wire.{headerThere, bodyThere, lengthAt, bodyLength, Shape, grown, Reading}
+use Rattle.scope.specs.Writing.{Walk}
+use Rattle.theory.specs.ReadingSteps.{nodeAt, coefficientsAt, constantAt, NodeThere}
+use Rattle.theory.specs.WritingSteps.{nodeHeld, NodeHeld}
+
+pub record Meet (b : List ℕ) (q : Question) (s : Reading) (w : Walk) : Type 0 where
+  pub shape : s .shape ≡ w .shape
+  pub n : s .question .n ≡ q .n
+  pub node : nodeAt b s ≡ nodeHeld q w
+  pub coefficients : T (isAtom (nodeHeld q w)) → coefficientsAt b s ≡ coefficientsOf q (w .shape .atoms)
+  pub constant : T (isAtom (nodeHeld q w)) → constantAt b s ≡ constantOf q (w .shape .atoms)
+
+module _ (b : List ℕ) (q : Question) (s : Reading) (w : Walk) (m : Meet b q s w) (depth : ℕ) where
+  held-atom : T (isAtom (nodeAt b s)) → T (isAtom (nodeHeld q w))
+  held-atom t = subst (λ (x : Node). T (isAtom x)) (m .node) t
+
+  there-atom : T (isAtom (nodeHeld q w)) → T (isAtom (nodeAt b s))
+  there-atom t = subst (λ (x : Node). T (isAtom x)) (sym (m .node)) t
+
+  pub same-length : bodyLength (s .question .n) (nodeAt b s) ≡ bodyLength (q .n) (nodeHeld q w)
+  same-length i = bodyLength (m .n i) (m .node i)
+
+  pub there-of-held : NodeHeld q depth w → T (headerThere b (s .place)) → lengthAt b (s .place) ≡ bodyLength (q .n) (nodeHeld q w) → T (bodyThere b (s .place)) → NodeThere b depth s
+  there-of-held h header exact body = record {
+    header = header;
+    used = subst (λ (x : Node). T (not (isUnused x))) (sym (m .node)) (h .used);
+    exact = exact ∙ sym same-length;
+    body = body;
+    room = subst (λ (a : Shape). a .nodes < 64) (sym (m .shape)) (h .room);
+    few = λ t. subst (λ (a : Shape). a .atoms < 8) (sym (m .shape)) (h .few (held-atom t));
+    shallow = h .shallow;
+    fit = λ t. rw (m .coefficients (held-atom t), m .constant (held-atom t)) (h .fit (held-atom t));
+  }
+
+  pub held-of-there : NodeThere b depth s → NodeHeld q depth w
+  held-of-there h = record {
+    room = subst (λ (a : Shape). a .nodes < 64) (m .shape) (h .room);
+    used = subst (λ (x : Node). T (not (isUnused x))) (m .node) (h .used);
+    few = λ t. subst (λ (a : Shape). a .atoms < 8) (m .shape) (h .few (there-atom t));
+    shallow = h .shallow;
+    fit = λ t. rw (← m .coefficients t, ← m .constant t) (h .fit (there-atom t));
+  }
+
+  pub same-grown : (due : List ℕ) → grown (nodeAt b s) depth due (s .shape) ≡ grown (nodeHeld q w) depth due (w .shape)
+  same-grown due i = grown (m .node i) depth due (m .shape i)
