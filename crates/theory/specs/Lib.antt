@@ -32,3 +32,4 @@ pub mod ReadingSteps
 pub mod WritingSteps
 pub mod Sound
 pub mod Meeting
+pub mod Wholes
