@@ -33,3 +33,4 @@ pub mod WritingSteps
 pub mod Sound
 pub mod Meeting
 pub mod Wholes
+pub mod ReadWritten
