@@ -34,3 +34,4 @@ pub mod Sound
 pub mod Meeting
 pub mod Wholes
 pub mod ReadWritten
+pub mod WrittenRead
