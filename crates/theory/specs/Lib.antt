@@ -35,3 +35,4 @@ pub mod Meeting
 pub mod Wholes
 pub mod ReadWritten
 pub mod WrittenRead
+pub mod Accepted

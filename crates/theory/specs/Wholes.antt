@@ -43,7 +43,7 @@ pub whole-read : (b : List ℕ) (at : ℕ) (e : Ended) → ReadWhole b at e → 
 unfolding readFrom
 whole-read b at e h = ap (onward 65 (recordRead b)) (head-going b at (h .head)) ∙ h .walk
 
-pub record Accepted (b : List ℕ) : Type 0 where
+pub record AcceptedWhole (b : List ℕ) : Type 0 where
   pub last : Ended
   pub whole : ReadWhole b 0 last
   pub all-read : length b ≤ last .next
@@ -52,22 +52,26 @@ pub record Accepted (b : List ℕ) : Type 0 where
 refused-not-accepted : (r : Refusal) → ReadAnswer.Refused r ≡ ReadAnswer.Accepted → ⊥
 refused-not-accepted r e = let z : _≡_ {A = ℕ} 0 1 = cc in omega arith
 
-pub accepted-whole : (b : List ℕ) → readHeld b .answer ≡ ReadAnswer.Accepted → Accepted b
-unfolding readHeld wholeRead
+past-end : (b : List ℕ) (e : Ended) (p : Progress Reading Ended) → wholeRead b p ≡ ended e → (p ≡ ended e) × (length b ≤ e .next)
+unfolding wholeRead
+past-end b e (stopped r) x = absurd (stopped-not-ended r e x)
+past-end b e (going s) x = absurd (going-not-ended s e x)
+past-end b e (ended d) x =
+    let g : Passed (check 6 (d .next) (leb (length b) (d .next)) ∷ []) × (_≡_ {A = Progress Reading Ended} (ended d) (ended e)) = still-ended (check 6 (d .next) (leb (length b) (d .next)) ∷ []) (ended d) e x in
+    (g .1, subst (λ (f : Ended). length b ≤ f .next) (ended-one d e (g .1)) (leb→le (length b) (d .next) (g .0 .0)))
+
+pub whole-ended : (b : List ℕ) (e : Ended) (p : Progress Reading Ended) → wholeRead b p ≡ ended e → p ≡ ended e
+whole-ended b e p x = past-end b e p x .0
+
+pub accepted-whole : (b : List ℕ) → readHeld b .answer ≡ ReadAnswer.Accepted → AcceptedWhole b
+unfolding readHeld
 accepted-whole b h = go (wholeRead b (readFrom b 0)) refl h
   where
-    past : (e : Ended) (p : Progress Reading Ended) → wholeRead b p ≡ ended e → (p ≡ ended e) × (length b ≤ e .next)
-    past e (stopped r) x = absurd (stopped-not-ended r e x)
-    past e (going s) x = absurd (going-not-ended s e x)
-    past e (ended d) x =
-        let g : Passed (check 6 (d .next) (leb (length b) (d .next)) ∷ []) × (_≡_ {A = Progress Reading Ended} (ended d) (ended e)) = still-ended (check 6 (d .next) (leb (length b) (d .next)) ∷ []) (ended d) e x in
-        (g .1, subst (λ (f : Ended). length b ≤ f .next) (ended-one d e (g .1)) (leb→le (length b) (d .next) (g .0 .0)))
-
-    go : (p : Progress Reading Ended) → wholeRead b (readFrom b 0) ≡ p → heldOf p .answer ≡ ReadAnswer.Accepted → Accepted b
+    go : (p : Progress Reading Ended) → wholeRead b (readFrom b 0) ≡ p → heldOf p .answer ≡ ReadAnswer.Accepted → AcceptedWhole b
     go (stopped r) x h = absurd (refused-not-accepted r h)
     go (going s) x h = absurd (refused-not-accepted (refusal 5 (s .place)) h)
     go (ended e) x h =
-        let g : (readFrom b 0 ≡ ended e) × (length b ≤ e .next) = past e (readFrom b 0) x in
+        let g : (readFrom b 0 ≡ ended e) × (length b ≤ e .next) = past-end b e (readFrom b 0) x in
         record { last = e; whole = read-whole b 0 e (g .0); all-read = g .1; question = ap (λ (p : Progress Reading Ended). heldOf p .question) x }
 
 pub whole-accepted : (b : List ℕ) (e : Ended) → ReadWhole b 0 e → length b ≤ e .next → readHeld b ≡ record { answer = ReadAnswer.Accepted; question = e .question }

@@ -25,7 +25,7 @@ use Rattle.theory.specs.ReadingSteps.{nodeAt, coefficientsAt, constantAt
 use Rattle.theory.specs.WritingSteps.{firstWalk, nodeHeld, NodeHeld, afterWritten, part-going, part-ended, blank-left}
 use Rattle.theory.specs.Sound.{Sound, sound-head, sound-step, step-as}
 use Rattle.theory.specs.Meeting.{Meet, held-of-there, same-grown, same-length}
-use Rattle.theory.specs.Wholes.{ReadWhole, Accepted, accepted-whole, afterLast, whole-written}
+use Rattle.theory.specs.Wholes.{ReadWhole, AcceptedWhole, accepted-whole, afterLast, whole-written}
 
 -- ---- the bytes of a record that is there: one of this kind, with this body
 
@@ -235,6 +235,6 @@ pub record WrittenBack (b : List ℕ) (q : Question) : Type 0 where
 
 pub written-read : (b : List ℕ) → Octets b → readHeld b .answer ≡ ReadAnswer.Accepted → WrittenBack b (readHeld b .question)
 written-read b o e =
-    let a : Accepted b = accepted-whole b e in
+    let a : AcceptedWhole b = accepted-whole b e in
     let w : (w : Walk) × (written (a .last .question) ≡ ended w) × (w .bytes ≡ b) × Sound (a .last .question) (w .shape) = write-back b o (a .last) (a .whole) (a .all-read) in
     subst (WrittenBack b) (sym (a .question)) (record { walk = w .0; written = w .1; bytes = w .2; sized = w .3 .sized; sound = w .3 })
