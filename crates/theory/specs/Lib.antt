@@ -36,3 +36,4 @@ pub mod Wholes
 pub mod ReadWritten
 pub mod WrittenRead
 pub mod Accepted
+pub mod Formula
