@@ -37,3 +37,4 @@ pub mod ReadWritten
 pub mod WrittenRead
 pub mod Accepted
 pub mod Formula
+pub mod Stopped

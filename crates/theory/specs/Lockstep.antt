@@ -1,10 +1,11 @@
 -- Work that goes on step by step until it has ended: what holds at every step on the way, and two works in lockstep.
-use mathlib.Core.Path.{_≡_, refl, sym, ap, _∙_}
+use mathlib.Core.Path.{_≡_, refl, sym, ap, _∙_, subst}
 use mathlib.Core.List.{List, [], _∷_, _++_}
-use Prim.Native.Nat.{ℕ, zero, suc}
+use Prim.Native.Nat.{ℕ, zero, suc, _+_}
+use native.Mathlib.Omega.{arith}
 use Rattle.scope.specs.declared.Refusal.{Refusal}
 use Rattle.scope.specs.Refusals.{Progress, stopped, going, ended, onward}
-use Rattle.theory.specs.Checks.{stopped-not-ended, going-not-ended, ended-one, onward-stopped, onward-ended}
+use Rattle.theory.specs.Checks.{stopped-not-ended, going-not-ended, going-not-stopped, ended-not-stopped, going-one, onward-stopped, onward-ended}
 
 module _ {A B : Type 0} (step : A → Progress A B) (b : B) where
   -- by the first step, where the work ends
@@ -50,3 +51,33 @@ module _ {A B : Type 0} (step : A → Progress A B) (b : B) where
           let r : (d : D) × (onward f other (going (g .0)) ≡ ended d) × Final d = lockstep f a′ (g .0) (g .2) e′ in
           (r .0, ap (onward f other) (g .1) ∙ r .1, r .2))
           e
+
+-- ---- work that was stopped, and work that is still going
+
+module _ {A B : Type 0} (step : A → Progress A B) (Kept : A → Type 0) (on : (a c : A) → Kept a → step a ≡ going c → Kept c) where
+  -- it was stopped by one of its steps
+  pub stopped-onward : (f : ℕ) (a : A) (r : Refusal) → Kept a → onward f step (going a) ≡ stopped r → (c : A) × Kept c × (step c ≡ stopped r)
+  unfolding onward
+  stopped-onward zero a r k e = absurd (going-not-stopped a r e)
+  stopped-onward (suc f) a r k e = go (λ c s e. stopped-onward f c r (on a c k s) e) (step a) refl e
+    where
+      go : ((c : A) → step a ≡ going c → onward f step (going c) ≡ stopped r → (d : A) × Kept d × (step d ≡ stopped r))
+          → (p : Progress A B) → step a ≡ p → onward f step p ≡ stopped r → (c : A) × Kept c × (step c ≡ stopped r)
+      go later (stopped t) s e = (a, k, s ∙ sym (onward-stopped f step t) ∙ e)
+      go later (going c) s e = later c s e
+      go later (ended b) s e = absurd (ended-not-stopped b r (sym (onward-ended f step b) ∙ e))
+
+  -- it has made every one of its steps
+  module _ (count : A → ℕ) (one-more : (a c : A) → Kept a → step a ≡ going c → count c ≡ count a + 1) where
+    pub going-onward : (f : ℕ) (a c : A) → Kept a → onward f step (going a) ≡ going c → Kept c × (count c ≡ count a + f)
+    unfolding onward
+    going-onward zero a c k e = let same : a ≡ c = going-one a c e in (subst Kept same k, ap count (sym same) ∙ omega arith)
+    going-onward (suc f) a c k e = go (λ d s e. going-onward f d c (on a d k s) e) (step a) refl e
+      where
+        go : ((d : A) → step a ≡ going d → onward f step (going d) ≡ going c → Kept c × (count c ≡ count d + f))
+            → (p : Progress A B) → step a ≡ p → onward f step p ≡ going c → Kept c × (count c ≡ count a + suc f)
+        go later (stopped t) s e = absurd (going-not-stopped c t (sym e ∙ onward-stopped f step t))
+        go later (going d) s e =
+            let h : Kept c × (count c ≡ count d + f) = later d s e in
+            (h .0, omega (arith, h .1, one-more a d k s))
+        go later (ended b) s e = absurd (going-not-ended c b (sym e ∙ onward-ended f step b))

@@ -24,7 +24,7 @@ pub record ReadWhole (b : List ℕ) (at : ℕ) (e : Ended) : Type 0 where
   pub head : HeadThere b at
   pub walk : onward 65 (recordRead b) (going (afterHead b at)) ≡ ended e
 
-head-no-end : (b : List ℕ) (at : ℕ) (e : Ended) → headRead b at ≡ ended e → ⊥
+pub head-no-end : (b : List ℕ) (at : ℕ) (e : Ended) → headRead b at ≡ ended e → ⊥
 unfolding headRead
 head-no-end b at e x = going-not-ended (afterHead b at) e (still-ended (headChecks b at) (going (afterHead b at)) e x .1)
 
@@ -52,7 +52,7 @@ pub record AcceptedWhole (b : List ℕ) : Type 0 where
 refused-not-accepted : (r : Refusal) → ReadAnswer.Refused r ≡ ReadAnswer.Accepted → ⊥
 refused-not-accepted r e = let z : _≡_ {A = ℕ} 0 1 = cc in omega arith
 
-past-end : (b : List ℕ) (e : Ended) (p : Progress Reading Ended) → wholeRead b p ≡ ended e → (p ≡ ended e) × (length b ≤ e .next)
+pub past-end : (b : List ℕ) (e : Ended) (p : Progress Reading Ended) → wholeRead b p ≡ ended e → (p ≡ ended e) × (length b ≤ e .next)
 unfolding wholeRead
 past-end b e (stopped r) x = absurd (stopped-not-ended r e x)
 past-end b e (going s) x = absurd (going-not-ended s e x)
