@@ -6,7 +6,7 @@ use mathlib.Core.Option.{Option, none, some}
 use mathlib.Core.List.{List, [], _∷_, _++_}
 use Prim.Native.Nat.{ℕ, zero, suc, _+_, _-_, _≤_, _<_}
 use native.Mathlib.Omega.{arith}
-use lib.Dec.{T, leb, leb→le, le→leb}
+use lib.Dec.{T, leb, nleb→lt}
 use lib.ListN.{length}
 use Rattle.scope.specs.declared.Refusal.{Refusal}
 use Rattle.scope.specs.declared.ReadAnswer.{ReadAnswer}
@@ -80,3 +80,75 @@ stopped-at b at r e = go (headRead b at) refl e
         (ap (λ (u : Reading). onward 65 (recordRead b) (going u)) (sym (g .1)) ∙ e) in
         record-stopped b at (h .0) r (h .1) (h .2)
     go (ended d) x e = absurd (head-no-end b at d x)
+
+-- ---- and nowhere else
+
+failing-stops : {A B : Type 0} (cs : List Check) (p : Progress A B) (r : Refusal) → FirstFailing cs r → orStopped (firstRefusal cs) p ≡ stopped r
+failing-stops cs p r f = ap (λ (o : Option Refusal). orStopped o p) (failing-some cs r f)
+
+-- a record that is refused stops the reading
+record-stops : {b : List ℕ} {at : ℕ} {s : Reading} (r : Refusal) → Reached b at s → recordRead b s ≡ stopped r → readFrom b at ≡ stopped r
+record-stops {b} {at} {s} r h e =
+    let fuel : 65 - s .shape .nodes ≡ suc (64 - s .shape .nodes) = omega (arith, reached-sound h .nodes) in
+    reached-onward h
+    ∙ ap (λ (f : ℕ). onward f (recordRead b) (going s)) fuel
+    ∙ onward-going (64 - s .shape .nodes) (recordRead b) s
+    ∙ ap (onward (64 - s .shape .nodes) (recordRead b)) e
+    ∙ onward-stopped (64 - s .shape .nodes) (recordRead b) r
+
+pub at-stopped : (b : List ℕ) (at : ℕ) (r : Refusal) → StoppedAt b at r → readFrom b at ≡ stopped r
+unfolding readFrom headRead recordRead nodeRead endRead
+at-stopped b at r (at-head f) = ap (onward 65 (recordRead b)) (failing-stops (headChecks b at) (going (afterHead b at)) r f) ∙ onward-stopped 65 (recordRead b) r
+at-stopped b at r (at-node s depth due h d f) =
+    record-stops r h (ap (λ (l : List ℕ). dueRead b l s) d ∙ failing-stops (nodeChecks b depth s) (going (afterNode b depth due s)) r f)
+at-stopped b at r (at-end s h d f) =
+    record-stops r h (ap (λ (l : List ℕ). dueRead b l s) d ∙ failing-stops (endChecks b (s .place)) (ended (afterEnd s)) r f)
+
+pub stopped-iff : (b : List ℕ) (at : ℕ) (r : Refusal) → (readFrom b at ≡ stopped r) ↔ StoppedAt b at r
+stopped-iff b at r = (stopped-at b at r, at-stopped b at r)
+
+-- ---- nothing is left going: a 65th node is refused
+
+pub never-going : (b : List ℕ) (at : ℕ) (s : Reading) → readFrom b at ≡ going s → ⊥
+unfolding readFrom
+never-going b at s e = go (headRead b at) refl e
+  where
+    go : (p : Progress Reading Ended) → headRead b at ≡ p → onward 65 (recordRead b) p ≡ going s → ⊥
+    go (stopped t) x e = going-not-stopped s t (sym e ∙ onward-stopped 65 (recordRead b) t)
+    go (going u) x e =
+        let g : HeadThere b at × (u ≡ afterHead b at) = going-head b at u x in
+        let h : Reached b at s × (s .shape .nodes ≡ 0 + 65) =
+        going-onward (recordRead b) (Reached b at) (reached-on b at) (λ (v : Reading). v .shape .nodes) (λ v w k y. one-node b v w (going-record b v w y))
+        65 (afterHead b at) s (first (g .0)) (ap (λ (v : Reading). onward 65 (recordRead b) (going v)) (sym (g .1)) ∙ e) in
+        omega (arith, h .1, reached-sound (h .0) .nodes)
+    go (ended d) x e = head-no-end b at d x
+
+-- ---- every refusal of a question's bytes
+
+-- the end was read, and bytes are left
+pub record LeftBytes (b : List ℕ) (r : Refusal) : Type 0 where
+  pub last : Ended
+  pub read : readFrom b 0 ≡ ended last
+  pub left : last .next < length b
+  pub told : r ≡ refusal 6 (last .next)
+
+refused-one : (r t : Refusal) → ReadAnswer.Refused r ≡ ReadAnswer.Refused t → r ≡ t
+refused-one r t e = cc
+
+accepted-not-refused : (r : Refusal) → ReadAnswer.Accepted ≡ ReadAnswer.Refused r → ⊥
+accepted-not-refused r e = let z : _≡_ {A = ℕ} 0 1 = cc in omega arith
+
+whole-stopped : (b : List ℕ) (r : Refusal) (p : Progress Reading Ended) → readFrom b 0 ≡ p → heldOf (wholeRead b p) .answer ≡ ReadAnswer.Refused r → StoppedAt b 0 r ⊎ LeftBytes b r
+unfolding wholeRead firstRefusal
+whole-stopped b r (stopped t) x e = inl (stopped-at b 0 r (x ∙ ap stopped (refused-one t r e)))
+whole-stopped b r (going s) x e = absurd (never-going b 0 s x)
+whole-stopped b r (ended d) x e = go (leb (length b) (d .next)) (nleb→lt (length b) (d .next)) e
+  where
+    go : (t : Bool) → (T (not t) → d .next < length b)
+        → heldOf (orStopped (firstRefusal (check 6 (d .next) t ∷ [])) (ended d)) .answer ≡ ReadAnswer.Refused r → StoppedAt b 0 r ⊎ LeftBytes b r
+    go true f e = absurd (accepted-not-refused r e)
+    go false f e = inr (record { last = d; read = x; left = f tt; told = sym (refused-one (refusal 6 (d .next)) r e) })
+
+pub refused-at : (b : List ℕ) (r : Refusal) → readHeld b .answer ≡ ReadAnswer.Refused r → StoppedAt b 0 r ⊎ LeftBytes b r
+unfolding readHeld
+refused-at b r e = whole-stopped b r (readFrom b 0) refl e
