@@ -85,8 +85,8 @@ sound-within q r =
       sized = r .sound .sized;
       some-variable = variables-range (q .n) (r .sound .variables) .0;
       variables = variables-range (q .n) (r .sound .variables) .1;
-      some-atom = omega (arith, r .sound .kinds, r .sound .begun);
-      atoms = omega (arith, r .sound .kinds, r .sound .atoms);
+      some-atom = omega (arith, r .sound .kinds, r .sound .formed .begun);
+      atoms = omega (arith, r .sound .kinds, r .sound .formed .atoms);
       numbers = λ i h. r .sound .fits i (rw (r .sound .kinds) at h);
     }
 

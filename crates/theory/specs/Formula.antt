@@ -106,7 +106,7 @@ formula-ended s h o d =
     let long : length (drop n codes) ≡ 64 - n = length-drop n codes ∙ ap (λ (m : ℕ). m - n) (h .sized .codes) in
     let rest : later ≡ replicate (64 - n) unused =
     all-unused (drop n codes) (λ i. getD-drop n codes i 0 ∙ h .blank .codes (n + i) (omega arith)) ∙ ap (λ (m : ℕ). replicate m unused) long in
-    record { nodes = n; few = h .nodes; part = subst₂ (λ (l r : List Node). Part 16 l r) all rest whole }
+    record { nodes = n; few = h .formed .nodes; part = subst₂ (λ (l r : List Node). Part 16 l r) all rest whole }
 
 pub read-formula : (b : List ℕ) (at : ℕ) (e : Ended) → readFrom b at ≡ ended e → OneFormula (e .question)
 read-formula b at e x =

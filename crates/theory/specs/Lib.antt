@@ -28,6 +28,7 @@ pub mod Octets
 pub mod Records
 pub mod Held
 pub mod Noting
+pub mod Shapes
 pub mod ReadingSteps
 pub mod WritingSteps
 pub mod Sound

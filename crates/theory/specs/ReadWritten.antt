@@ -261,7 +261,7 @@ module _ (q : Question) (z : Sized q) (w : Walk) (h : WrittenWhole q w) where
       shapes = ap (λ (y : Walk). y .shape) (at-last .1) ∙ sym (g .shape)
 
       blank : Blank q (s .shape .nodes) (s .shape .atoms)
-      blank = left-blank q (s .shape) z (g .sound .nodes) (subst (λ (a : Shape). Passed (leftOver q a)) shapes (h .left))
+      blank = left-blank q (s .shape) z (g .sound .formed .nodes) (subst (λ (a : Shape). Passed (leftOver q a)) shapes (h .left))
 
       same : s .question ≡ q
       same = same-question (s .question) q (s .shape .nodes) (s .shape .atoms) (g .sound .sized) z (g .sound .blank) blank (g .agrees)

@@ -16,6 +16,7 @@ use Rattle.scope.specs.Refusals.{going, ended}
 use Rattle.scope.specs.Wire.{byteAt, Shape, unread, grown, Reading, Ended, noted, recordRead}
 use Rattle.theory.specs.Checks.{and-first, and-second}
 use Rattle.theory.specs.Octets.{numbers-length}
+use Rattle.theory.specs.Shapes.{Formed, unread-formed, formed-grown}
 use Rattle.theory.specs.Held.{getD-same, Sized, Blank, Agree, empty-sized}
 use Rattle.theory.specs.Noting.{NotedAs, noted-as, kinds-set}
 use Rattle.theory.specs.ReadingSteps.{afterHead, HeadThere, nodeAt, coefficientsAt, constantAt, afterNode, NodeThere, NodeStep, EndStep, going-record, ended-record}
@@ -27,11 +28,9 @@ pub record Sound (p : Question) (s : Shape) : Type 0 where
   pub sized : Sized p
   pub blank : Blank p (s .nodes) (s .atoms)
   pub variables : T (variablesFit (p .n))
-  pub nodes : s .nodes ≤ 64
-  pub atoms : s .atoms ≤ 8
+  pub formed : Formed s
   pub kinds : length (kindsOf (nodesOf p)) ≡ s .atoms
   pub fits : (i : ℕ) → i < s .atoms → T (numbersFit (coefficientsOf p i) (constantOf p i))
-  pub begun : 1 ≤ s .atoms + length (s .due)
 
 pub sound-head : (b : List ℕ) (at : ℕ) → HeadThere b at → Sound (afterHead b at .question) unread
 unfolding nodesOf kindsOf
@@ -44,28 +43,15 @@ sound-head b at h = record {
     constants = λ i k. getD-same 8 i (pos 0);
   };
   variables = h .variables;
-  nodes = omega arith;
-  atoms = omega arith;
+  formed = unread-formed;
   kinds = refl;
   fits = λ i k. absurd (omega arith);
-  begun = omega arith;
 }
 
 -- an atom among one more is the newest or an earlier one
 pub earlier-or-newest : (t : Bool) (a i : ℕ) → i < a + cond t 1 0 → (i < a) ⊎ (T t × (i ≡ a))
 earlier-or-newest true a i h = by-cases (decLt i a) (λ l. inl l) (λ l. inr (tt, omega arith))
 earlier-or-newest false a i h = inl (omega arith)
-
-one-more : (t : Bool) (a : ℕ) → a ≤ 8 → (T t → a < 8) → a + cond t 1 0 ≤ 8
-one-more true a h f = omega (arith, f tt)
-one-more false a h f = omega arith
-
-still-begun : (x : Node) (a depth : ℕ) (due : List ℕ) → T (not (isUnused x)) → 1 ≤ (a + cond (isAtom x) 1 0) + length (replicate (parts x) (depth + 1) ++ due)
-still-begun unused a depth due u = absurd u
-still-begun (atom κ) a depth due u = omega arith
-still-begun Node.not a depth due u = omega arith
-still-begun Node.and a depth due u = omega arith
-still-begun Node.or a depth due u = omega arith
 
 -- a node noted: its numbers are the given ones, where it is an atom
 module _ (x : Node) (cs : List ℤ) (k : ℤ) (depth : ℕ) (due : List ℕ) (s : Shape) (p : Question) (h : Sound p s)
@@ -87,17 +73,15 @@ module _ (x : Node) (cs : List ℤ) (k : ℤ) (depth : ℕ) (due : List ℕ) (s 
       (λ e. rw (e .1, sound-as .row (e .0), sound-as .constant (e .0)) (f (e .0)))
       (earlier-or-newest (isAtom x) (s .atoms) i l)
 
-  pub sound-noted : T (not (isUnused x)) → (T (isAtom x) → T (numbersFit cs k)) → Sound (noted (isAtom x) x cs k s p) (grown x depth due s)
+  pub sound-noted : s .due ≡ depth ∷ due → T (not (isUnused x)) → depth ≤ 16 → (T (isAtom x) → T (numbersFit cs k)) → Sound (noted (isAtom x) x cs k s p) (grown x depth due s)
   unfolding grown
-  sound-noted used fit = record {
+  sound-noted first used shallow fit = record {
     sized = sound-as .sized;
     blank = sound-as .blank (h .blank);
     variables = rw (← sound-as .kept .n) (h .variables);
-    nodes = omega arith;
-    atoms = one-more (isAtom x) (s .atoms) (h .atoms) few;
+    formed = formed-grown x depth due s (h .formed) first room used few shallow;
     kinds = noted-kinds;
     fits = noted-fits fit;
-    begun = still-begun x (s .atoms) depth due used;
   }
 
 -- a node read
@@ -114,4 +98,4 @@ module _ (b : List ℕ) (s r : Reading) (h : Sound (s .question) (s .shape)) (t 
       subst (λ (q : Reading). Sound (q .question) (q .shape))
       (sym (t .after))
       (sound-noted (nodeAt b s) (coefficientsAt b s) (constantAt b s) (t .depth) (t .due) (s .shape) (s .question) h (t .there .room) (t .there .few)
-      (numbers-length (s .question .n) b (s .place + 4)) (t .there .used) (t .there .fit))
+      (numbers-length (s .question .n) b (s .place + 4)) (t .first) (t .there .used) (t .there .shallow) (t .there .fit))

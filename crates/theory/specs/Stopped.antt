@@ -89,7 +89,7 @@ failing-stops cs p r f = ap (λ (o : Option Refusal). orStopped o p) (failing-so
 -- a record that is refused stops the reading
 record-stops : {b : List ℕ} {at : ℕ} {s : Reading} (r : Refusal) → Reached b at s → recordRead b s ≡ stopped r → readFrom b at ≡ stopped r
 record-stops {b} {at} {s} r h e =
-    let fuel : 65 - s .shape .nodes ≡ suc (64 - s .shape .nodes) = omega (arith, reached-sound h .nodes) in
+    let fuel : 65 - s .shape .nodes ≡ suc (64 - s .shape .nodes) = omega (arith, reached-sound h .formed .nodes) in
     reached-onward h
     ∙ ap (λ (f : ℕ). onward f (recordRead b) (going s)) fuel
     ∙ onward-going (64 - s .shape .nodes) (recordRead b) s
@@ -120,7 +120,7 @@ never-going b at s e = go (headRead b at) refl e
         let h : Reached b at s × (s .shape .nodes ≡ 0 + 65) =
         going-onward (recordRead b) (Reached b at) (reached-on b at) (λ (v : Reading). v .shape .nodes) (λ v w k y. one-node b v w (going-record b v w y))
         65 (afterHead b at) s (first (g .0)) (ap (λ (v : Reading). onward 65 (recordRead b) (going v)) (sym (g .1)) ∙ e) in
-        omega (arith, h .1, reached-sound (h .0) .nodes)
+        omega (arith, h .1, reached-sound (h .0) .formed .nodes)
     go (ended d) x e = head-no-end b at d x
 
 -- ---- every refusal of a question's bytes

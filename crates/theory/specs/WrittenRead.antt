@@ -221,7 +221,7 @@ module _ (b : List ℕ) (o : Octets b) (e : Ended) (g : ReadWhole b 0 e) where
       let f : Final v = walk-back .2 in
       let variables : T (variablesFit (e .question .n)) = f .sound .variables in (
         afterLast v,
-        whole-written (e .question) v variables (walk-back .1) (blank-left (e .question) (v .shape) (f .sound .sized) (f .sound .nodes) (f .sound .blank)),
+        whole-written (e .question) v variables (walk-back .1) (blank-left (e .question) (v .shape) (f .sound .sized) (f .sound .formed .nodes) (f .sound .blank)),
         f .bytes ∙ take-all (e .next) b l,
         f .sound,
       )
