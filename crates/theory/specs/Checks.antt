@@ -100,7 +100,8 @@ unfolding firstRefusal
 some-failing [] r e = let z : _≡_ {A = ℕ} 0 1 = cc in absurd (omega arith)
 some-failing (c ∷ cs) r e = some-cons c cs r (c .passed) refl (some-failing cs r) e
 
-failing-at : (before : List Check) (c : Check) (after : List Check) → Passed before → c .passed ≡ false
+-- a check fails behind others that were passed
+pub failing-at : (before : List Check) (c : Check) (after : List Check) → Passed before → c .passed ≡ false
     → firstRefusal (before ++ (c ∷ after)) ≡ some (refusal (c .number) (c .place))
 unfolding firstRefusal
 failing-at [] c after p f = rw f
@@ -140,6 +141,12 @@ module _ {A B : Type 0} where
 
   pub passed-on : (cs : List Check) (p : Progress A B) → Passed cs → orStopped (firstRefusal cs) p ≡ p
   passed-on cs p h = rw (passed-none cs h)
+
+  pub failing-stops : (cs : List Check) (p : Progress A B) (r : Refusal) → FirstFailing cs r → orStopped (firstRefusal cs) p ≡ stopped r
+  failing-stops cs p r f = ap (λ (o : Option Refusal). orStopped o p) (failing-some cs r f)
+
+  pub stopped-one : (r t : Refusal) → _≡_ {A = Progress A B} (stopped r) (stopped t) → r ≡ t
+  stopped-one r t e = cc
 
   pub going-one : (a c : A) → _≡_ {A = Progress A B} (going a) (going c) → a ≡ c
   going-one a c e = cc

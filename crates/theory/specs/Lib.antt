@@ -39,3 +39,4 @@ pub mod WrittenRead
 pub mod Accepted
 pub mod Formula
 pub mod Stopped
+pub mod WritingStopped

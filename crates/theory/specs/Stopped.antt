@@ -12,7 +12,7 @@ use Rattle.scope.specs.declared.Refusal.{Refusal}
 use Rattle.scope.specs.declared.ReadAnswer.{ReadAnswer}
 use Rattle.scope.specs.Refusals.{Check, check, refusal, firstRefusal, Progress, stopped, going, ended, orStopped, onward}
 use Rattle.scope.specs.Wire.{Shape, grown, Reading, Ended, headRead, nodeRead, endRead, dueRead, recordRead, readFrom, wholeRead, heldOf, readHeld}
-use Rattle.theory.specs.Checks.{FirstFailing, failing-some, stopped-failing, going-not-stopped, ended-not-stopped, onward-stopped, onward-going}
+use Rattle.theory.specs.Checks.{FirstFailing, failing-stops, stopped-failing, going-not-stopped, ended-not-stopped, onward-stopped, onward-going}
 use Rattle.theory.specs.Lockstep.{stopped-onward, going-onward}
 use Rattle.theory.specs.ReadingSteps.{headChecks, afterHead, HeadThere, head-going, going-head, nodeAt, nodeChecks, afterNode, NodeThere, NodeStep, endChecks, afterEnd, EndStep, record-going, going-record}
 use Rattle.theory.specs.Wholes.{head-no-end, past-end}
@@ -83,11 +83,8 @@ stopped-at b at r e = go (headRead b at) refl e
 
 -- ---- and nowhere else
 
-failing-stops : {A B : Type 0} (cs : List Check) (p : Progress A B) (r : Refusal) → FirstFailing cs r → orStopped (firstRefusal cs) p ≡ stopped r
-failing-stops cs p r f = ap (λ (o : Option Refusal). orStopped o p) (failing-some cs r f)
-
 -- a record that is refused stops the reading
-record-stops : {b : List ℕ} {at : ℕ} {s : Reading} (r : Refusal) → Reached b at s → recordRead b s ≡ stopped r → readFrom b at ≡ stopped r
+pub record-stops : {b : List ℕ} {at : ℕ} {s : Reading} (r : Refusal) → Reached b at s → recordRead b s ≡ stopped r → readFrom b at ≡ stopped r
 record-stops {b} {at} {s} r h e =
     let fuel : 65 - s .shape .nodes ≡ suc (64 - s .shape .nodes) = omega (arith, reached-sound h .formed .nodes) in
     reached-onward h
