@@ -31,6 +31,24 @@ Part (suc depth) (Node.not ∷ xs) rest = Part depth xs rest
 Part (suc depth) (Node.and ∷ xs) rest = (ys : List Node) × Part depth xs ys × Part depth ys rest
 Part (suc depth) (Node.or ∷ xs) rest = (ys : List Node) × Part depth xs ys × Part depth ys rest
 
+both-rest : (x : Node) (xs ys rest : List Node) → (k : ℕ) × (0 < k) × (k ≤ length xs) × (ys ≡ drop k xs) → (k : ℕ) × (0 < k) × (k ≤ length ys) × (rest ≡ drop k ys)
+    → (k : ℕ) × (0 < k) × (k ≤ suc (length xs)) × (rest ≡ drop k (x ∷ xs))
+both-rest x xs ys rest f g =
+    let long : length ys ≡ length xs - f .0 = ap length (f .3) ∙ length-drop (f .0) xs in
+    (suc (f .0 + g .0), omega arith, omega (arith, long, f .2, g .2), g .3 ∙ ap (drop (g .0)) (f .3) ∙ drop-drop (g .0) (f .0) xs)
+
+-- what stands after a part is what is left of the nodes behind some of them
+pub part-rest : (depth : ℕ) (xs rest : List Node) → Part depth xs rest → (k : ℕ) × (0 < k) × (k ≤ length xs) × (rest ≡ drop k xs)
+part-rest zero xs rest p = absurd p
+part-rest (suc depth) [] rest p = absurd p
+part-rest (suc depth) (unused ∷ xs) rest p = absurd p
+part-rest (suc depth) (atom κ ∷ xs) rest p = (1, omega arith, omega arith, sym p)
+part-rest (suc depth) (Node.not ∷ xs) rest p =
+    let h : (k : ℕ) × (0 < k) × (k ≤ length xs) × (rest ≡ drop k xs) = part-rest depth xs rest p in
+    (suc (h .0), omega arith, omega arith, h .3)
+part-rest (suc depth) (Node.and ∷ xs) rest p = both-rest Node.and xs (p .0) rest (part-rest depth xs (p .0) (p .1)) (part-rest depth (p .0) rest (p .2))
+part-rest (suc depth) (Node.or ∷ xs) rest p = both-rest Node.or xs (p .0) rest (part-rest depth xs (p .0) (p .1)) (part-rest depth (p .0) rest (p .2))
+
 -- the parts that are due, each at its depth
 abbrev Parts : List ℕ → List Node → List Node → Type 0
 Parts [] xs rest = xs ≡ rest

@@ -40,3 +40,4 @@ pub mod Accepted
 pub mod Formula
 pub mod Stopped
 pub mod WritingStopped
+pub mod Answers
