@@ -1,8 +1,8 @@
 -- Bytes are accepted exactly if they are the written bytes of a held question; and what holds of every question that was read.
 use mathlib.Core.Path.{_≡_, refl, sym, ap, _∙_, subst}
 use mathlib.Core.Logic.{_↔_}
-use mathlib.Core.List.{List, [], _∷_, _++_}
-use Prim.Native.Nat.{ℕ, zero, suc, _+_, _≤_, _<_}
+use mathlib.Core.List.{List, []}
+use Prim.Native.Nat.{ℕ, _≤_, _<_}
 use native.Mathlib.Omega.{arith}
 use lib.Dec.{T}
 use lib.ListN.{length}
@@ -11,7 +11,7 @@ use Rattle.scope.specs.declared.ReadAnswer.{ReadAnswer}
 use Rattle.scope.specs.declared.Held.{Held}
 use Rattle.scope.specs.Sizes.{numbersFit}
 use Rattle.scope.specs.Question.{nodesOf, kindsOf, coefficientsOf, constantOf}
-use Rattle.scope.specs.Refusals.{Progress, stopped, going, ended, onward}
+use Rattle.scope.specs.Refusals.{Progress, stopped, going, ended}
 use Rattle.scope.specs.Wire.{Shape, Reading, Ended, recordRead, readFrom, wholeRead, heldOf, readHeld}
 use Rattle.scope.specs.Writing.{Walk, written}
 use Rattle.theory.specs.Lockstep.{kept-onward}

@@ -1,9 +1,9 @@
 -- The answer of reading, case by case; how long accepted bytes can be; and the atoms of a question that was read.
 use mathlib.Core.Path.{_≡_, refl, sym, ap, _∙_, subst}
-use mathlib.Core.Logic.{_↔_, _⊎_, inl, inr, ⊎-elim}
-use mathlib.Core.Bool.{Bool, true, false, not, cond}
-use mathlib.Core.List.{List, [], _∷_, _++_}
-use Prim.Native.Nat.{ℕ, zero, suc, _+_, _*_, _≤_, _<_}
+use mathlib.Core.Logic.{_↔_, _⊎_, ⊎-elim}
+use mathlib.Core.Bool.{Bool, true, false, cond}
+use mathlib.Core.List.{List, [], _∷_}
+use Prim.Native.Nat.{ℕ, suc, _+_, _*_, _≤_, _<_}
 use native.Mathlib.Omega.{arith}
 use lib.Dec.{T, leb, leb→le}
 use lib.ListN.{length}
@@ -12,9 +12,9 @@ use Rattle.scope.specs.declared.Refusal.{Refusal}
 use Rattle.scope.specs.declared.ReadAnswer.{ReadAnswer}
 use Rattle.scope.specs.declared.Held.{Held}
 use Rattle.scope.specs.Sizes.{numbersFit}
-use Rattle.scope.specs.Question.{Kind, Node, isAtom, Atom, emptyQuestion, nodesOf, kindsOf, coefficientsOf, constantOf, atomsFrom, atomsOf, atomCount}
-use Rattle.scope.specs.Refusals.{check, refusal, firstRefusal, Progress, stopped, going, ended, onward}
-use Rattle.scope.specs.Wire.{Shape, grown, bodyLength, Reading, Ended, recordRead, readFrom, wholeRead, heldOf, readHeld}
+use Rattle.scope.specs.Question.{Kind, isAtom, Atom, emptyQuestion, nodesOf, kindsOf, coefficientsOf, constantOf, atomsFrom, atomsOf, atomCount}
+use Rattle.scope.specs.Refusals.{check, refusal, Progress, stopped, ended}
+use Rattle.scope.specs.Wire.{grown, bodyLength, Reading, Ended, recordRead, readFrom, wholeRead, heldOf, readHeld}
 use Rattle.theory.specs.Checks.{failing-stops}
 use Rattle.theory.specs.Lockstep.{kept-onward}
 use Rattle.theory.specs.Held.{Sized}

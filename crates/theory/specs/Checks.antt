@@ -2,14 +2,14 @@
 -- Work that goes on step by step: what it keeps, and two works in lockstep.
 use mathlib.Core.Path.{_≡_, refl, sym, ap, _∙_}
 use mathlib.Core.Logic.{_↔_}
-use mathlib.Core.Bool.{Bool, true, false, not, cond, _&&_, _||_}
+use mathlib.Core.Bool.{Bool, true, false, not, _&&_, _||_}
 use mathlib.Core.Option.{Option, none, some}
 use mathlib.Core.List.{List, [], _∷_, _++_}
 use Prim.Native.Nat.{ℕ, zero, suc}
 use native.Mathlib.Omega.{arith}
 use lib.Dec.{T}
 use Rattle.scope.specs.declared.Refusal.{Refusal}
-use Rattle.scope.specs.Refusals.{Check, check, refusal, unlessPassed, firstRefusal, Progress, stopped, going, ended, orStopped, onward}
+use Rattle.scope.specs.Refusals.{Check, refusal, unlessPassed, firstRefusal, Progress, stopped, going, ended, orStopped, onward}
 
 -- ---- tests
 

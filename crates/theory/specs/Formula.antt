@@ -1,6 +1,6 @@
 -- The formula of a question that was read: its first nodes are one part of depth at most 16, and settling it uses up exactly those.
 use mathlib.Core.Path.{_≡_, refl, sym, ap, _∙_, subst, subst₂}
-use mathlib.Core.Bool.{Bool, true, false, not, cond}
+use mathlib.Core.Bool.{Bool, false, not, cond}
 use mathlib.Core.List.{List, [], _∷_, _++_, map, map-append, append-assoc}
 use Prim.Native.Nat.{ℕ, zero, suc, _+_, _-_, _≤_, _<_}
 use native.Mathlib.Numerals.{add-one}
@@ -10,13 +10,13 @@ use lib.ListN.{length, getD, take, drop, set, replicate, take-append-drop, lengt
 use lib.Seq.{take-suc-set, drop-drop, getD-drop}
 use Rattle.scope.specs.declared.Question.{Question}
 use Rattle.scope.specs.declared.ReadAnswer.{ReadAnswer}
-use Rattle.scope.specs.Question.{Kind, Node, unused, atom, nodeOf, codeOf, isUnused, isAtom, parts, nodesOf, kindsOf}
+use Rattle.scope.specs.Question.{Node, unused, atom, nodeOf, codeOf, isUnused, isAtom, parts, nodesOf, kindsOf}
 use Rattle.scope.specs.States.{Settled, settled}
-use Rattle.scope.specs.Refusals.{Progress, stopped, going, ended, onward}
-use Rattle.scope.specs.Wire.{Shape, grown, Reading, Ended, recordRead, readFrom, readHeld}
+use Rattle.scope.specs.Refusals.{ended}
+use Rattle.scope.specs.Wire.{grown, Reading, Ended, recordRead, readFrom, readHeld}
 use Rattle.theory.specs.Lockstep.{kept-onward}
 use Rattle.theory.specs.Records.{node-of-code}
-use Rattle.theory.specs.Noting.{NotedAs, kinds-cons}
+use Rattle.theory.specs.Noting.{kinds-cons}
 use Rattle.theory.specs.ReadingSteps.{nodeAt, afterHead, NodeStep, EndStep, going-record, ended-record}
 use Rattle.theory.specs.Sound.{Sound, sound-head, sound-step, step-as}
 use Rattle.theory.specs.Wholes.{ReadWhole, read-whole, whole-read, AcceptedWhole, accepted-whole}

@@ -1,21 +1,15 @@
 -- Held questions: their sizes, what is unused and zero, where two agree, and that a node noted changes only its own entries.
-use mathlib.Core.Path.{_≡_, refl, sym, ap, _∙_, subst}
-use mathlib.Core.Logic.{_↔_, _≢_, by-cases}
-use mathlib.Core.Bool.{Bool, true, false, not, cond}
-use mathlib.Core.List.{List, [], _∷_, _++_, map, append-assoc}
+use mathlib.Core.Path.{_≡_, refl, sym, ap, _∙_}
+use mathlib.Core.Logic.{_≢_, by-cases}
+use mathlib.Core.List.{List, [], _∷_, _++_, append-assoc}
 use Prim.Native.Nat.{ℕ, zero, suc, _+_, _*_, _-_, _/_, _%_, _≤_, _<_}
-use native.Mathlib.Nat.{add-zero}
 use native.Mathlib.Decide.{decLt}
 use native.Mathlib.Omega.{arith}
-use lib.Dec.{T}
-use lib.ListN.{length, getD, take, drop, set, replicate, length-append, length-take, length-drop, length-set}
-use lib.Seq.{sets, sets-eq, length-sets, take-at, drop-at, length-take-le, getD-set-same, getD-set-other, getD-take, getD-drop, take-set-le, drop-set-add, ext-getD}
-use lib.IntN.{ℤ, pos, negsuc}
+use lib.ListN.{length, getD, take, drop, set, replicate}
+use lib.Seq.{sets, sets-eq, take-at, drop-at, length-take-le, getD-set-other, getD-take, getD-drop, take-set-le, drop-set-add, ext-getD}
+use lib.IntN.{ℤ, pos}
 use Rattle.scope.specs.declared.Question.{Question}
-use Rattle.scope.specs.Sizes.{mostVariables, mostAtoms, mostNodes}
-use Rattle.scope.specs.Question.{Kind, equation, atMost, Node, unused, atom, nodeOf, codeOf, isUnused, isAtom, emptyQuestion, nodesOf, kindsOf, coefficientsOf, constantOf}
-use Rattle.scope.specs.Wire.{Shape, noted}
-use Rattle.theory.specs.Records.{node-of-code}
+use Rattle.scope.specs.Question.{emptyQuestion, coefficientsOf, constantOf}
 
 -- ---- lists
 

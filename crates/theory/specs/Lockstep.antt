@@ -1,6 +1,5 @@
 -- Work that goes on step by step until it has ended: what holds at every step on the way, and two works in lockstep.
 use mathlib.Core.Path.{_≡_, refl, sym, ap, _∙_, subst}
-use mathlib.Core.List.{List, [], _∷_, _++_}
 use Prim.Native.Nat.{ℕ, zero, suc, _+_}
 use native.Mathlib.Omega.{arith}
 use Rattle.scope.specs.declared.Refusal.{Refusal}

@@ -1,15 +1,11 @@
 -- Where reading stands at a node and writing stands at the same node: what the one checks the other does, and both grow to one shape.
-use mathlib.Core.Path.{_≡_, refl, sym, ap, _∙_, subst}
-use mathlib.Core.Bool.{Bool, true, false, not, cond}
-use mathlib.Core.List.{List, [], _∷_, _++_}
-use Prim.Native.Nat.{ℕ, zero, suc, _+_, _*_, _≤_, _<_}
-use native.Mathlib.Omega.{arith}
+use mathlib.Core.Path.{_≡_, sym, _∙_, subst}
+use mathlib.Core.Bool.{not}
+use mathlib.Core.List.{List}
+use Prim.Native.Nat.{ℕ, _<_}
 use lib.Dec.{T}
-use lib.ListN.{length, getD, length-append}
-use lib.IntN.{ℤ}
 use Rattle.scope.specs.declared.Question.{Question}
-use Rattle.scope.specs.Sizes.{numbersFit}
-use Rattle.scope.specs.Question.{Node, nodeOf, isUnused, isAtom, coefficientsOf, constantOf}
+use Rattle.scope.specs.Question.{Node, isUnused, isAtom, coefficientsOf, constantOf}
 use Rattle.scope.specs.Wire.{headerThere, bodyThere, lengthAt, bodyLength, Shape, grown, Reading}
 use Rattle.scope.specs.Writing.{Walk}
 use Rattle.theory.specs.ReadingSteps.{nodeAt, coefficientsAt, constantAt, NodeThere}

@@ -1,20 +1,19 @@
 -- A node noted in a held question: its own entries are what was read, earlier entries and the sizes stay, and what is still unused is zero.
-use mathlib.Core.Path.{_≡_, refl, sym, ap, _∙_, subst}
-use mathlib.Core.Logic.{_↔_, _≢_, by-cases}
+use mathlib.Core.Path.{_≡_, refl, sym, ap, _∙_}
+use mathlib.Core.Logic.{_≢_}
 use mathlib.Core.Bool.{Bool, true, false, not, cond}
-use mathlib.Core.List.{List, [], _∷_, _++_, map}
-use Prim.Native.Nat.{ℕ, zero, suc, _+_, _*_, _-_, _/_, _%_, _≤_, _<_}
-use native.Mathlib.Nat.{add-zero}
+use mathlib.Core.List.{List, [], _∷_, map}
+use Prim.Native.Nat.{ℕ, zero, suc, _+_, _*_, _≤_, _<_}
 use native.Mathlib.Omega.{arith}
 use lib.Dec.{T}
-use lib.ListN.{length, getD, take, drop, set, length-set, length-map}
+use lib.ListN.{length, getD, set, length-set}
 use lib.Seq.{sets, length-sets, getD-set-same, getD-set-other}
-use lib.IntN.{ℤ, pos, negsuc}
+use lib.IntN.{ℤ, pos}
 use Rattle.scope.specs.declared.Question.{Question}
-use Rattle.scope.specs.Question.{Kind, equation, atMost, Node, unused, atom, nodeOf, codeOf, isUnused, isAtom, nodesOf, kindsOf, coefficientsOf, constantOf}
+use Rattle.scope.specs.Question.{Node, unused, atom, nodeOf, codeOf, isAtom, kindsOf, coefficientsOf, constantOf}
 use Rattle.scope.specs.Wire.{Shape, noted}
 use Rattle.theory.specs.Records.{node-of-code}
-use Rattle.theory.specs.Held.{stretch-sets, stretch-same, getD-sets-out, Sized, Blank, Agree, agree-self}
+use Rattle.theory.specs.Held.{stretch-sets, stretch-same, getD-sets-out, Sized, Blank, Agree}
 
 -- p, with node x at its place and its numbers where it is an atom, is r
 pub record NotedAs (p r : Question) (nodes atoms : ℕ) (isAn : Bool) (x : Node) (cs : List ℤ) (k : ℤ) : Type 0 where

@@ -1,38 +1,37 @@
 -- A question that was written is read back: the bytes are accepted, and the question read is the one that was written.
 use mathlib.Core.Path.{_≡_, refl, sym, ap, _∙_, subst}
-use mathlib.Core.Logic.{_⊎_, inl, inr, ⊎-elim}
-use mathlib.Core.Bool.{Bool, true, false, not, cond}
+use mathlib.Core.Logic.{⊎-elim}
+use mathlib.Core.Bool.{Bool, true, false, cond}
 use mathlib.Core.List.{List, [], _∷_, _++_, map, append-assoc}
-use Prim.Native.Nat.{ℕ, zero, suc, _+_, _*_, _-_, _≤_, _<_}
-use native.Mathlib.Decide.{decLt}
+use Prim.Native.Nat.{ℕ, _+_, _*_, _≤_, _<_}
 use native.Mathlib.Omega.{arith}
-use lib.Dec.{T, leb, leb→le, lit<}
-use lib.ListN.{length, getD, take, drop, length-append, length-take, length-drop}
-use lib.Seq.{drop-at, drop-append-seam}
-use lib.IntN.{ℤ, pos, negsuc, natAbs}
+use lib.Dec.{T, leb→le, lit<}
+use lib.ListN.{length, getD, drop, length-append, length-take, length-drop}
+use lib.Seq.{drop-at}
+use lib.IntN.{ℤ, natAbs}
 use mir.Syntax.{w32}
 use mir.Val.{SFits}
 use Rattle.scope.specs.declared.Question.{Question}
 use Rattle.scope.specs.declared.ReadAnswer.{ReadAnswer}
 use Rattle.scope.specs.declared.Held.{Held}
 use Rattle.scope.specs.Whole.{all, joined}
-use Rattle.scope.specs.Sizes.{coefficientFits, constantFits, variablesFit, numbersFit}
-use Rattle.scope.specs.Question.{Node, nodeOf, codeOf, isUnused, isAtom, coefficientsOf, constantOf}
-use Rattle.scope.specs.Refusals.{Progress, stopped, going, ended, onward}
-use Rattle.scope.specs.Wire.{byteAt, lengthAt, kindAt, numberAt, numbersAt, headerThere, bodyThere, headKind, endKind, kindOf, nodeOfKind, bodyLength, Shape, unread, grown, Reading, Ended, recordRead, readHeld}
+use Rattle.scope.specs.Sizes.{coefficientFits, constantFits, numbersFit}
+use Rattle.scope.specs.Question.{Node, codeOf, isAtom, coefficientsOf, constantOf}
+use Rattle.scope.specs.Refusals.{going, ended, onward}
+use Rattle.scope.specs.Wire.{byteAt, lengthAt, kindAt, numberAt, numbersAt, headKind, endKind, kindOf, nodeOfKind, bodyLength, Shape, grown, Reading, Ended, recordRead, readHeld}
 use Rattle.scope.specs.Writing.{twoBytes, recordBytes, atomBody, nodeBytes, numberBytes, Walk, partWritten, leftOver, written}
 use Rattle.theory.specs.Magnitude.{fits-abs}
 use Rattle.theory.specs.Checks.{Passed, and-first, and-second}
 use Rattle.theory.specs.Lockstep.{kept-onward, known-onward, lockstep}
-use Rattle.theory.specs.Octets.{Octets, octets-append, two-octets, run-octets, number-octets, Fit, numbers-length}
+use Rattle.theory.specs.Octets.{Octets, octets-append, two-octets, run-octets, number-octets, Fit}
 use Rattle.theory.specs.Records.{record-length, record-kind, record-body, header-there, body-there, body-length, body-coefficients, body-constant, node-of-kind, code-of-node, kind-small}
 use Rattle.theory.specs.Held.{Sized, Blank, Agree, same-question}
 use Rattle.theory.specs.Noting.{NotedAs}
-use Rattle.theory.specs.ReadingSteps.{nodeAt, coefficientsAt, constantAt, afterHead, afterNode, afterEnd, HeadThere, NodeThere, NodeStep, EndThere, record-going, record-ended}
-use Rattle.theory.specs.WritingSteps.{firstWalk, nodeHeld, NodeHeld, HeldStep, afterWritten, going-part, ended-part, left-blank}
+use Rattle.theory.specs.ReadingSteps.{nodeAt, coefficientsAt, constantAt, afterHead, afterNode, afterEnd, HeadThere, NodeStep, EndThere, record-going, record-ended}
+use Rattle.theory.specs.WritingSteps.{firstWalk, nodeHeld, HeldStep, going-part, ended-part, left-blank}
 use Rattle.theory.specs.Sound.{Sound, variables-range, earlier-or-newest, sound-head, sound-step, step-as}
 use Rattle.theory.specs.Meeting.{Meet, there-of-held, same-grown, same-length}
-use Rattle.theory.specs.Wholes.{ReadWhole, whole-accepted, afterLast, WrittenWhole, written-whole}
+use Rattle.theory.specs.Wholes.{whole-accepted, WrittenWhole, written-whole}
 
 -- ---- numbers within their limits fit in four bytes
 

@@ -1,19 +1,14 @@
 -- One step of reading, by what its checks say: the head, a node, the end.
 use mathlib.Core.Path.{_≡_, refl, sym, ap, _∙_, subst}
-use mathlib.Core.Bool.{Bool, true, false, not, cond, _&&_, _||_}
-use mathlib.Core.Option.{Option, none, some}
-use mathlib.Core.List.{List, [], _∷_, _++_}
-use Prim.Native.Nat.{ℕ, zero, suc, _+_, _*_, _≤_, _<_}
-use native.Mathlib.Omega.{arith}
-use lib.Dec.{T, leb, ltb, eqb, leb→le, le→leb, ltb→lt, lt→ltb, eqb→eq, eqb-refl}
-use lib.ListN.{length, getD}
-use lib.IntN.{ℤ, pos, negsuc}
-use Rattle.scope.specs.declared.Question.{Question}
-use Rattle.scope.specs.declared.Refusal.{Refusal}
-use Rattle.scope.specs.Sizes.{mostVariables, mostAtoms, mostNodes, mostDepth, variablesFit, numbersFit}
-use Rattle.scope.specs.Question.{Node, unused, atom, codeOf, isUnused, isAtom, emptyQuestion}
-use Rattle.scope.specs.Refusals.{Check, check, refusal, firstRefusal, Progress, stopped, going, ended, orStopped, onward}
-use Rattle.scope.specs.Wire.{byteAt, numberAt, numbersAt, lengthAt, kindAt, headerThere, bodyThere, headKind, endKind, nodeOfKind, bodyLength, Shape, unread, grown, placeCheck, sizeChecks, Reading, Ended, headRead, noted, nodeRead, endRead, dueRead, recordRead}
+use mathlib.Core.Bool.{not, _||_}
+use mathlib.Core.List.{List, [], _∷_}
+use Prim.Native.Nat.{ℕ, _+_, _*_, _≤_, _<_}
+use lib.Dec.{T, ltb, eqb, leb→le, le→leb, ltb→lt, lt→ltb, eqb→eq, eqb-refl}
+use lib.IntN.{ℤ}
+use Rattle.scope.specs.Sizes.{variablesFit, numbersFit}
+use Rattle.scope.specs.Question.{Node, isUnused, isAtom, emptyQuestion}
+use Rattle.scope.specs.Refusals.{Check, check, Progress, going, ended}
+use Rattle.scope.specs.Wire.{byteAt, numberAt, numbersAt, lengthAt, kindAt, headerThere, bodyThere, headKind, endKind, nodeOfKind, bodyLength, unread, grown, placeCheck, sizeChecks, Reading, Ended, headRead, noted, nodeRead, endRead, dueRead, recordRead}
 use Rattle.theory.specs.Checks.{Passed, asked, was-asked, still-going, still-ended, passed-on, going-one, ended-one, going-not-ended}
 
 pub eq→eqb : (a b : ℕ) → a ≡ b → T (eqb a b)

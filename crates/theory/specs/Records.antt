@@ -1,20 +1,19 @@
 -- Records on the wire: what is seen at a place where a record's bytes stand, and the bytes of a record that is there; nodes, their kinds and their codes.
-use mathlib.Core.Path.{_≡_, refl, sym, ap, _∙_, subst}
-use mathlib.Core.Logic.{_↔_, _≢_}
+use mathlib.Core.Path.{_≡_, refl, sym, ap, _∙_}
 use mathlib.Core.Bool.{Bool, true, false, not, cond}
 use mathlib.Core.List.{List, [], _∷_, _++_, map, append-assoc}
-use Prim.Native.Nat.{ℕ, zero, suc, _+_, _*_, _-_, _/_, _%_, _≤_, _<_}
+use Prim.Native.Nat.{ℕ, suc, _+_, _*_, _≤_, _<_}
 use native.Mathlib.Nat.{add-zero}
 use native.Mathlib.Omega.{arith}
-use lib.Dec.{T, leb, le→leb, leb→le, eqb, eqb→eq, lit<}
-use lib.ListN.{length, getD, take, drop, length-append, length-take, length-drop}
+use lib.Dec.{T, le→leb, leb→le, eqb, eqb→eq, lit<}
+use lib.ListN.{length, take, drop, length-append, length-take, length-drop}
 use lib.Seq.{drop-drop, drop-at, take-add}
-use lib.IntN.{ℤ, pos, negsuc}
+use lib.IntN.{ℤ}
 use Rattle.scope.specs.Whole.{joined}
-use Rattle.scope.specs.Question.{Kind, equation, atMost, Node, unused, atom, nodeOf, codeOf, isUnused, isAtom}
-use Rattle.scope.specs.Wire.{byteAt, twoAt, numberAt, numbersAt, lengthAt, kindAt, headerThere, bodyThere, kindOf, nodeOfKind, bodyLength}
+use Rattle.scope.specs.Question.{equation, atMost, Node, unused, atom, nodeOf, codeOf, isUnused}
+use Rattle.scope.specs.Wire.{twoAt, numberAt, numbersAt, lengthAt, kindAt, headerThere, bodyThere, kindOf, nodeOfKind}
 use Rattle.scope.specs.Writing.{twoBytes, numberBytes, recordBytes, atomBody}
-use Rattle.theory.specs.Octets.{Octets, octets-drop, two-read, two-written, two-drop, number-drop, numbers-drop, numbers-length, Fit, run-length, numbers-of-bytes, number-of-bytes, bytes-of-numbers, bytes-of-number}
+use Rattle.theory.specs.Octets.{Octets, octets-drop, two-read, two-written, two-drop, number-drop, numbers-drop, Fit, run-length, numbers-of-bytes, number-of-bytes, bytes-of-numbers, bytes-of-number}
 use mir.Syntax.{w32}
 use mir.Val.{SFits}
 

@@ -1,25 +1,24 @@
 -- What a reading has noted so far is sound: its sizes and limits hold, what is unused is zero, and the atoms are those that were counted.
 use mathlib.Core.Path.{_≡_, refl, sym, ap, _∙_, subst}
-use mathlib.Core.Logic.{_↔_, _⊎_, inl, inr, ⊎-elim, by-cases}
-use mathlib.Core.Bool.{Bool, true, false, not, cond, _&&_, _||_}
-use mathlib.Core.List.{List, [], _∷_, _++_, map}
-use Prim.Native.Nat.{ℕ, zero, suc, _+_, _*_, _-_, _/_, _%_, _≤_, _<_}
+use mathlib.Core.Logic.{_⊎_, inl, inr, ⊎-elim, by-cases}
+use mathlib.Core.Bool.{Bool, true, false, not, cond}
+use mathlib.Core.List.{List, _∷_, map}
+use Prim.Native.Nat.{ℕ, _+_, _≤_, _<_}
 use native.Mathlib.Decide.{decLt}
 use native.Mathlib.Omega.{arith}
 use lib.Dec.{T, leb, leb→le}
-use lib.ListN.{length, getD, set, replicate, length-append}
-use lib.IntN.{ℤ, pos, negsuc}
+use lib.ListN.{length}
+use lib.IntN.{ℤ, pos}
 use Rattle.scope.specs.declared.Question.{Question}
 use Rattle.scope.specs.Sizes.{variablesFit, numbersFit}
-use Rattle.scope.specs.Question.{Node, unused, atom, nodeOf, codeOf, isUnused, isAtom, parts, emptyQuestion, nodesOf, kindsOf, coefficientsOf, constantOf}
-use Rattle.scope.specs.Refusals.{going, ended}
-use Rattle.scope.specs.Wire.{byteAt, Shape, unread, grown, Reading, Ended, noted, recordRead}
+use Rattle.scope.specs.Question.{Node, nodeOf, isUnused, isAtom, nodesOf, kindsOf, coefficientsOf, constantOf}
+use Rattle.scope.specs.Wire.{Shape, unread, grown, Reading, noted}
 use Rattle.theory.specs.Checks.{and-first, and-second}
 use Rattle.theory.specs.Octets.{numbers-length}
 use Rattle.theory.specs.Shapes.{Formed, unread-formed, formed-grown}
-use Rattle.theory.specs.Held.{getD-same, Sized, Blank, Agree, empty-sized}
+use Rattle.theory.specs.Held.{getD-same, Sized, Blank}
 use Rattle.theory.specs.Noting.{NotedAs, noted-as, kinds-set}
-use Rattle.theory.specs.ReadingSteps.{afterHead, HeadThere, nodeAt, coefficientsAt, constantAt, afterNode, NodeThere, NodeStep, EndStep, going-record, ended-record}
+use Rattle.theory.specs.ReadingSteps.{afterHead, HeadThere, nodeAt, coefficientsAt, constantAt, NodeStep}
 
 pub variables-range : (n : ℕ) → T (variablesFit n) → (1 ≤ n) × (n ≤ 6)
 variables-range n t = (leb→le 1 n (and-first (leb 1 n) (leb n 6) t), leb→le n 6 (and-second (leb 1 n) (leb n 6) t))

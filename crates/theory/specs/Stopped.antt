@@ -1,21 +1,20 @@
 -- Where reading stops: at a place that was reached by passing every record before it, with the first check there that fails; and nowhere else.
-use mathlib.Core.Path.{_≡_, refl, sym, ap, _∙_, subst}
-use mathlib.Core.Logic.{_↔_, _⊎_, inl, inr, ⊎-elim}
-use mathlib.Core.Bool.{Bool, true, false, not, cond}
-use mathlib.Core.Option.{Option, none, some}
-use mathlib.Core.List.{List, [], _∷_, _++_}
-use Prim.Native.Nat.{ℕ, zero, suc, _+_, _-_, _≤_, _<_}
+use mathlib.Core.Path.{_≡_, refl, sym, ap, _∙_}
+use mathlib.Core.Logic.{_↔_, _⊎_, inl, inr}
+use mathlib.Core.Bool.{Bool, true, false, not}
+use mathlib.Core.List.{List, [], _∷_}
+use Prim.Native.Nat.{ℕ, suc, _+_, _-_, _<_}
 use native.Mathlib.Omega.{arith}
 use lib.Dec.{T, leb, nleb→lt}
 use lib.ListN.{length}
 use Rattle.scope.specs.declared.Refusal.{Refusal}
 use Rattle.scope.specs.declared.ReadAnswer.{ReadAnswer}
-use Rattle.scope.specs.Refusals.{Check, check, refusal, firstRefusal, Progress, stopped, going, ended, orStopped, onward}
-use Rattle.scope.specs.Wire.{Shape, grown, Reading, Ended, headRead, nodeRead, endRead, dueRead, recordRead, readFrom, wholeRead, heldOf, readHeld}
+use Rattle.scope.specs.Refusals.{check, refusal, firstRefusal, Progress, stopped, going, ended, orStopped, onward}
+use Rattle.scope.specs.Wire.{grown, Reading, Ended, headRead, nodeRead, endRead, dueRead, recordRead, readFrom, wholeRead, heldOf, readHeld}
 use Rattle.theory.specs.Checks.{FirstFailing, failing-stops, stopped-failing, going-not-stopped, ended-not-stopped, onward-stopped, onward-going}
 use Rattle.theory.specs.Lockstep.{stopped-onward, going-onward}
-use Rattle.theory.specs.ReadingSteps.{headChecks, afterHead, HeadThere, head-going, going-head, nodeAt, nodeChecks, afterNode, NodeThere, NodeStep, endChecks, afterEnd, EndStep, record-going, going-record}
-use Rattle.theory.specs.Wholes.{head-no-end, past-end}
+use Rattle.theory.specs.ReadingSteps.{headChecks, afterHead, HeadThere, head-going, going-head, nodeChecks, afterNode, NodeStep, endChecks, afterEnd, record-going, going-record}
+use Rattle.theory.specs.Wholes.{head-no-end}
 use Rattle.theory.specs.Sound.{Sound, sound-head, sound-step}
 
 -- ---- what is reached by passing records

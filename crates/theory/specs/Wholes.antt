@@ -1,20 +1,18 @@
 -- Reading and writing whole: a question accepted or written, as its head, its walk and its end.
 use mathlib.Core.Path.{_≡_, refl, sym, ap, _∙_, subst}
-use mathlib.Core.Bool.{Bool, true, false, not, cond}
 use mathlib.Core.List.{List, [], _∷_, _++_}
-use Prim.Native.Nat.{ℕ, zero, suc, _+_, _*_, _≤_, _<_}
+use Prim.Native.Nat.{ℕ, _≤_}
 use native.Mathlib.Omega.{arith}
 use lib.Dec.{T, leb, leb→le, le→leb}
 use lib.ListN.{length}
 use Rattle.scope.specs.declared.Question.{Question}
 use Rattle.scope.specs.declared.Refusal.{Refusal}
 use Rattle.scope.specs.declared.ReadAnswer.{ReadAnswer}
-use Rattle.scope.specs.declared.Held.{Held}
 use Rattle.scope.specs.Sizes.{variablesFit}
-use Rattle.scope.specs.Refusals.{Check, check, refusal, Progress, stopped, going, ended, onward}
+use Rattle.scope.specs.Refusals.{check, refusal, Progress, stopped, going, ended, onward}
 use Rattle.scope.specs.Wire.{Reading, Ended, headRead, recordRead, readFrom, wholeRead, heldOf, readHeld, endKind}
 use Rattle.scope.specs.Writing.{recordBytes, Walk, headWritten, partWritten, leftOver, endWritten, written}
-use Rattle.theory.specs.Checks.{Passed, still-ended, passed-on, ended-one, going-not-ended, stopped-not-ended, onward-stopped, onward-ended}
+use Rattle.theory.specs.Checks.{Passed, still-ended, passed-on, ended-one, going-not-ended, stopped-not-ended, onward-stopped}
 use Rattle.theory.specs.ReadingSteps.{afterHead, headChecks, HeadThere, head-going, going-head}
 use Rattle.theory.specs.WritingSteps.{firstWalk, head-written, written-head, head-not-ended}
 

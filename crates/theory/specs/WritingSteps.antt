@@ -1,26 +1,24 @@
 -- One step of writing, by what its checks say; and that nothing is left over exactly where what is unused is zero.
-use mathlib.Core.Path.{_≡_, refl, sym, ap, _∙_, subst}
-use mathlib.Core.Logic.{_↔_, _⊎_, inl, inr, ⊎-elim, by-cases}
-use mathlib.Core.Bool.{Bool, true, false, not, cond, _&&_, _||_}
+use mathlib.Core.Path.{_≡_, refl, sym, ap, _∙_}
+use mathlib.Core.Logic.{⊎-elim, by-cases}
+use mathlib.Core.Bool.{Bool, true, false, not, _||_}
 use mathlib.Core.List.{List, [], _∷_, _++_}
-use Prim.Native.Nat.{ℕ, zero, suc, _+_, _*_, _-_, _/_, _%_, _≤_, _<_}
-use native.Mathlib.Nat.{zero-add, sub-add-cancel}
+use Prim.Native.Nat.{ℕ, zero, suc, _+_, _-_, _/_, _%_, _≤_, _<_}
 use native.Mathlib.Decide.{decLt}
 use native.Mathlib.Omega.{arith}
-use lib.Dec.{T, leb, ltb, eqb, leb→le, le→leb, ltb→lt, lt→ltb, nltb→le, eqb→eq}
+use lib.Dec.{T, ltb, leb→le, le→leb, ltb→lt, lt→ltb, nltb→le, eqb→eq}
 use lib.ListN.{length, getD, List·getD-eq-default}
-use lib.IntN.{ℤ, pos, negsuc}
+use lib.IntN.{ℤ, pos}
 use mir.Facts.{and-no}
 use Rattle.scope.specs.declared.Question.{Question}
-use Rattle.scope.specs.declared.Refusal.{Refusal}
 use Rattle.scope.specs.Whole.{eqZ, allFrom}
-use Rattle.scope.specs.Sizes.{mostVariables, mostNodes, variablesFit, numbersFit}
+use Rattle.scope.specs.Sizes.{mostNodes, variablesFit, numbersFit}
 use Rattle.scope.specs.Question.{Node, nodeOf, isUnused, isAtom, coefficientsOf, constantOf}
-use Rattle.scope.specs.Refusals.{Check, check, refusal, firstRefusal, Progress, stopped, going, ended, orStopped, onward}
-use Rattle.scope.specs.Wire.{Shape, unread, grown, placeCheck, sizeChecks, headKind, endKind, kindOf}
-use Rattle.scope.specs.Writing.{recordBytes, nodeBytes, Walk, headWritten, nodeWritten, dueWritten, partWritten, codeChecks, coefficientUsed, numbersClear, leftOver, endWritten, written}
+use Rattle.scope.specs.Refusals.{Check, check, Progress, going, ended}
+use Rattle.scope.specs.Wire.{Shape, unread, grown, placeCheck, sizeChecks, headKind}
+use Rattle.scope.specs.Writing.{recordBytes, nodeBytes, Walk, headWritten, nodeWritten, dueWritten, partWritten, codeChecks, coefficientUsed, numbersClear, leftOver}
 use Rattle.theory.specs.Integers.{eqZ→eq, eq→eqZ}
-use Rattle.theory.specs.Checks.{Passed, and-first, and-second, and-both, asked, was-asked, still-going, still-ended, passed-on, going-one, ended-one, going-not-ended, stopped-not-ended}
+use Rattle.theory.specs.Checks.{Passed, and-first, and-second, and-both, asked, was-asked, still-going, still-ended, passed-on, going-one, ended-one, going-not-ended}
 use Rattle.theory.specs.Held.{Sized, Blank}
 use Rattle.theory.specs.ReadingSteps.{eq→eqb}
 

@@ -1,21 +1,20 @@
 -- Where writing is refused: at a node that was reached by passing every node before it, or at what is left over, with the first check that fails there.
 use mathlib.Core.Path.{_≡_, refl, sym, ap, _∙_, subst}
 use mathlib.Core.Logic.{_↔_}
-use mathlib.Core.Option.{Option, none, some}
-use mathlib.Core.List.{List, [], _∷_, _++_}
-use Prim.Native.Nat.{ℕ, zero, suc, _+_, _-_, _≤_, _<_}
+use mathlib.Core.List.{List, [], _∷_}
+use Prim.Native.Nat.{ℕ, suc, _+_, _-_}
 use native.Mathlib.Omega.{arith}
 use lib.Dec.{T}
 use Rattle.scope.specs.declared.Question.{Question}
 use Rattle.scope.specs.declared.Refusal.{Refusal}
 use Rattle.scope.specs.Sizes.{variablesFit}
-use Rattle.scope.specs.Refusals.{Check, check, refusal, firstRefusal, Progress, stopped, going, ended, orStopped, onward}
-use Rattle.scope.specs.Wire.{Shape, grown}
+use Rattle.scope.specs.Refusals.{Check, check, refusal, Progress, stopped, going, ended, onward}
+use Rattle.scope.specs.Wire.{grown}
 use Rattle.scope.specs.Writing.{Walk, headWritten, nodeWritten, dueWritten, partWritten, leftOver, endWritten, written}
 use Rattle.theory.specs.Checks.{FirstFailing, failing-stops, stopped-failing, stopped-one, still-going, going-not-ended, going-not-stopped, stopped-not-ended, ended-not-stopped, onward-stopped, onward-ended, onward-going}
 use Rattle.theory.specs.Lockstep.{kept-onward, stopped-onward, going-onward}
 use Rattle.theory.specs.Shapes.{Formed, unread-formed, formed-grown}
-use Rattle.theory.specs.WritingSteps.{firstWalk, head-written, written-head, head-not-ended, nodeHeld, heldChecks, afterWritten, NodeHeld, HeldStep, part-going, part-ended, going-part, ended-part}
+use Rattle.theory.specs.WritingSteps.{firstWalk, head-written, written-head, head-not-ended, nodeHeld, heldChecks, afterWritten, HeldStep, part-going, part-ended, going-part, ended-part}
 use Rattle.theory.specs.Wholes.{afterLast}
 
 -- ---- what is reached by passing nodes

@@ -1,30 +1,29 @@
 -- Bytes that are accepted are written back: the question that was read is sized, sound and written, and its bytes are those that were read.
 use mathlib.Core.Path.{_≡_, refl, sym, ap, _∙_, subst}
-use mathlib.Core.Bool.{Bool, true, false, not, cond}
-use mathlib.Core.List.{List, [], _∷_, _++_, append-assoc}
-use Prim.Native.Nat.{ℕ, zero, suc, _+_, _*_, _-_, _≤_, _<_}
-use native.Mathlib.Nat.{add-assoc}
+use mathlib.Core.Bool.{Bool, true, false, cond}
+use mathlib.Core.List.{List, [], _∷_, _++_}
+use Prim.Native.Nat.{ℕ, _+_, _*_, _≤_, _<_}
 use native.Mathlib.Omega.{arith}
 use lib.Dec.{T, le→leb}
-use lib.ListN.{length, getD, take, drop, length-take, length-drop}
+use lib.ListN.{length, getD, take, drop, length-drop}
 use lib.Seq.{take-add, take-all, getD-drop}
 use lib.IntN.{ℤ}
 use Rattle.scope.specs.declared.Question.{Question}
 use Rattle.scope.specs.declared.ReadAnswer.{ReadAnswer}
 use Rattle.scope.specs.Sizes.{variablesFit}
-use Rattle.scope.specs.Question.{Node, nodeOf, codeOf, isUnused, isAtom, coefficientsOf, constantOf}
-use Rattle.scope.specs.Refusals.{Progress, stopped, going, ended, onward}
-use Rattle.scope.specs.Wire.{byteAt, lengthAt, kindAt, numberAt, numbersAt, headerThere, bodyThere, headKind, endKind, kindOf, nodeOfKind, bodyLength, Shape, unread, grown, Reading, Ended, recordRead, readHeld}
-use Rattle.scope.specs.Writing.{twoBytes, recordBytes, atomBody, nodeBytes, Walk, partWritten, leftOver, written}
-use Rattle.theory.specs.Lockstep.{kept-onward, known-onward, lockstep}
+use Rattle.scope.specs.Question.{Node, nodeOf, isAtom, coefficientsOf, constantOf}
+use Rattle.scope.specs.Refusals.{going, ended, onward}
+use Rattle.scope.specs.Wire.{byteAt, lengthAt, kindAt, numberAt, numbersAt, bodyThere, headKind, endKind, kindOf, bodyLength, Shape, grown, Reading, Ended, recordRead, readHeld}
+use Rattle.scope.specs.Writing.{recordBytes, atomBody, nodeBytes, Walk, partWritten, written}
+use Rattle.theory.specs.Lockstep.{known-onward, lockstep}
 use Rattle.theory.specs.Octets.{Octets}
 use Rattle.theory.specs.Records.{there-header, there-body, bytes-of-record, bytes-of-body, node-of-code, kind-of-node}
-use Rattle.theory.specs.Held.{Sized, Blank, Agree, agree-self, agree-on}
+use Rattle.theory.specs.Held.{Sized, Agree, agree-self, agree-on}
 use Rattle.theory.specs.Noting.{NotedAs}
-use Rattle.theory.specs.ReadingSteps.{nodeAt, coefficientsAt, constantAt, afterHead, afterNode, afterEnd, HeadThere, NodeThere, NodeStep, EndThere, EndStep, going-record, ended-record}
-use Rattle.theory.specs.WritingSteps.{firstWalk, nodeHeld, NodeHeld, afterWritten, part-going, part-ended, blank-left}
+use Rattle.theory.specs.ReadingSteps.{nodeAt, coefficientsAt, constantAt, afterHead, NodeStep, EndStep, going-record, ended-record}
+use Rattle.theory.specs.WritingSteps.{firstWalk, nodeHeld, afterWritten, part-going, part-ended, blank-left}
 use Rattle.theory.specs.Sound.{Sound, sound-head, sound-step, step-as}
-use Rattle.theory.specs.Meeting.{Meet, held-of-there, same-grown, same-length}
+use Rattle.theory.specs.Meeting.{Meet, held-of-there, same-grown}
 use Rattle.theory.specs.Wholes.{ReadWhole, AcceptedWhole, accepted-whole, afterLast, whole-written}
 
 -- ---- the bytes of a record that is there: one of this kind, with this body
