@@ -1,5 +1,5 @@
 -- Checks in their order: none is refused exactly where every check was passed, and the refusal is that of the first check that failed.
--- Work that goes on step by step: what it keeps, and two works in lockstep.
+-- Progress: what its checks say where it still goes, has ended or was stopped, and how a further step unfolds.
 use mathlib.Core.Path.{_≡_, refl, sym, ap, _∙_}
 use mathlib.Core.Logic.{_↔_}
 use mathlib.Core.Bool.{Bool, true, false, not, _&&_, _||_}

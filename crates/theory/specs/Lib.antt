@@ -41,3 +41,4 @@ pub mod Formula
 pub mod Stopped
 pub mod WritingStopped
 pub mod Answers
+pub mod Buffers
