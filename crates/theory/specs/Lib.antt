@@ -42,3 +42,4 @@ pub mod Stopped
 pub mod WritingStopped
 pub mod Answers
 pub mod Buffers
+pub mod Joined
