@@ -6,7 +6,7 @@ use Prim.Native.Nat.{ℕ, zero, suc, _+_, _*_, _≤_, _<_}
 use native.Mathlib.Nat.{suc-mul, zero-mul, add-sub-of-le}
 use native.Mathlib.Omega.{arith}
 use lib.ListN.{length, getD, take, drop, length-append, length-drop, List·getD-append}
-use lib.Seq.{getD-append-add, getD-drop, take-append-seam}
+use lib.Seq.{getD-append-add, getD-drop, take-at}
 use lib.Dec.{T}
 use mir.Facts.{yes-and}
 use Rattle.scope.specs.Whole.{allFrom, joined, atFront}
@@ -34,9 +34,9 @@ module _ {B A : Type 0} (part : B → List A) (w : ℕ) (b : B) where
 -- ---- cells at the front of a buffer that has room for them
 
 module _ {A : Type 0} (cells buffer : List A) where
-  pub atFront-cells : take (length cells) (atFront cells buffer) ≡ cells
+  pub atFront-cells : (n : ℕ) → length cells ≡ n → take n (atFront cells buffer) ≡ cells
   unfolding atFront
-  atFront-cells = take-append-seam cells (drop (length cells) buffer)
+  atFront-cells n e = take-at cells (drop (length cells) buffer) n e
 
   pub atFront-before : (i : ℕ) (a : A) → i < length cells → getD (atFront cells buffer) i a ≡ getD cells i a
   unfolding atFront

@@ -43,3 +43,5 @@ pub mod WritingStopped
 pub mod Answers
 pub mod Buffers
 pub mod Joined
+pub mod Deciding
+pub mod Decided
