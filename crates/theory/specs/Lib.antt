@@ -45,3 +45,4 @@ pub mod Buffers
 pub mod Joined
 pub mod Deciding
 pub mod Decided
+pub mod Building
