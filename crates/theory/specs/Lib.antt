@@ -46,3 +46,4 @@ pub mod Joined
 pub mod Deciding
 pub mod Decided
 pub mod Building
+pub mod Built
