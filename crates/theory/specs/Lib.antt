@@ -47,3 +47,4 @@ pub mod Deciding
 pub mod Decided
 pub mod Building
 pub mod Built
+pub mod Lengths
