@@ -48,3 +48,4 @@ pub mod Decided
 pub mod Building
 pub mod Built
 pub mod Lengths
+pub mod Agreement
