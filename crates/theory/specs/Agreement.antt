@@ -13,7 +13,6 @@ use Rattle.scope.specs.declared.Question.{Question}
 use Rattle.scope.specs.declared.ReadAnswer.{ReadAnswer}
 use Rattle.scope.specs.declared.BuildAnswer.{BuildAnswer}
 use Rattle.scope.specs.declared.TruthAnswer.{TruthAnswer}
-use Rattle.scope.specs.declared.Held.{Held}
 use Rattle.scope.specs.Whole.{all}
 use Rattle.scope.specs.Sizes.{mostValue, mostStates, variablesFit}
 use Rattle.scope.specs.Refusals.{check, refusal, firstRefusal}
@@ -80,7 +79,7 @@ module _ (bytes values : List ℕ) (q : Question) (accepted : readHeld bytes ≡
   judged-accepted = rw accepted
 
   -- judging the bytes agrees with the table that the same bytes build
-  pub judged-built : Taken q values → T (variablesFit (q .n)) → (keys : List ℤ) (table : List ℕ) (states : ℕ) → built bytes keys table .answer ≡ BuildAnswer.Built states
+  pub judged-built : Taken q values → (keys : List ℤ) (table : List ℕ) (states : ℕ) → built bytes keys table .answer ≡ BuildAnswer.Built states
       → judged bytes values ≡ ran (q .n) (take (states * tableWidth (q .n)) (built bytes keys table .table)) (wordOfValues 40 values)
-  judged-built t v keys table states e =
-      judged-accepted ∙ judged-truth q values t ∙ sym (rw (word-spells q values t) at (built-answers bytes keys table q accepted v states e (wordOfValues 40 values) (word-over q values t)))
+  judged-built t keys table states e =
+      judged-accepted ∙ judged-truth q values t ∙ sym (rw (word-spells q values t) at (built-answers bytes keys table q accepted states e (wordOfValues 40 values) (word-over q values t)))

@@ -1,25 +1,25 @@
 -- Building: the cells of a table, row by row; and what a table that has every row says of a word, run without the question.
 use mathlib.Core.Path.{_≡_, refl, sym, ap, _∙_}
 use mathlib.Core.Bool.{Bool, true, false, cond}
-use mathlib.Core.List.{List, [], _∷_}
+use mathlib.Core.List.{List}
 use Prim.Native.Nat.{ℕ, zero, suc, _+_, _*_, _/_, _%_, _≤_, _<_}
 use native.Mathlib.Nat.{mul-add-mod-self-right, mod-eq-of-lt, mul-mod-left, mul-div-cancel, div-add-mod', mod-lt, div-lt-iff-lt-mul, zero-add}
 use native.Mathlib.Omega.{arith}
 use lib.ListN.{length, getD}
-use lib.Dec.{T, leb, ltb, eqb, eqb·suc-zero, le→leb, lt→ltb}
+use lib.Dec.{T, leb, eqb, eqb·suc-zero, le→leb, lt→ltb}
 use lib.Ieee.Bits.{is-true}
 use Rattle.scope.specs.declared.Question.{Question}
-use Rattle.scope.specs.declared.TruthAnswer.{TruthAnswer}
 use Rattle.scope.specs.Whole.{allFrom}
 use Rattle.scope.specs.Sizes.{mostStates, variablesFit}
 use Rattle.scope.specs.Refusals.{firstRefusal}
 use Rattle.scope.specs.Words.{Word, letters, spelled, lettersFit, Over, over-[], over-∷}
-use Rattle.scope.specs.States.{State, satisfied}
-use Rattle.scope.specs.Numbering.{Machine, Row, Rows, machineOf, startRow, row, after, numbered, numberOf}
+use Rattle.scope.specs.States.{satisfied}
+use Rattle.scope.specs.Numbering.{Machine, Row, Rows, machineOf, startRow, row, after, numberOf}
 use Rattle.scope.specs.Building.{tableWidth, nextStates, tableRow, tableCells}
 use Rattle.scope.specs.Running.{tableRows, cellFits, tableFits, rowAfter, saysYes, truthOf, ran}
-use Rattle.theory.specs.Lawful.{Lawful, machine-lawful}
-use Rattle.theory.specs.Table.{Rooted, numbered-rooted}
+use Rattle.theory.specs.Lawful.{machine-lawful}
+use Rattle.theory.specs.Prefix.{numbered-stays-le}
+use Rattle.theory.specs.Table.{numbered-rooted}
 use Rattle.theory.specs.Numbers.{HasNumber, number-is, number-step, number-word}
 use Rattle.theory.specs.Meaning.{word-means}
 use Rattle.theory.specs.Spelling.{letters-fit}
@@ -85,6 +85,10 @@ module _ (q : Question) (r : ℕ) where
       → getD (tableOf q r) (t * tableWidth (q .n) + 1 + a) 0 ≡ numberOf (machineOf q) (rowsOf q r) (machineOf q .step (row (machineOf q) (rowsOf q r) t .state) a)
   unfolding machineOf
   next-cell t a h g = table-next (machineOf q) (rowsOf q r) t a h g
+
+-- more rows lent give the same table, once they are enough
+pub table-stays : (q : Question) {r r′ : ℕ} → r ≤ r′ → length (rowsOf q r) ≤ r → tableOf q r′ ≡ tableOf q r
+table-stays q g h = ap (tableCells (machineOf q)) (numbered-stays-le (machineOf q) g h)
 
 -- ---- a table that has every row
 

@@ -2,22 +2,20 @@
 -- on any word of their letters, say whether the naturals that the word spells satisfy it.
 use mathlib.Core.Path.{_≡_, refl, sym, ap, _∙_}
 use mathlib.Core.Logic.{_↔_, _≢_, by-cases}
-use mathlib.Core.Bool.{Bool, true, false}
 use mathlib.Core.List.{List}
 use Prim.Native.Nat.{ℕ, _*_, _≤_, _<_}
 use native.Mathlib.Decide.{decLt}
 use native.Mathlib.Omega.{arith}
 use lib.ListN.{length, getD, take}
-use lib.Dec.{T, leb, leb→le, le→leb, not-T}
+use lib.Dec.{leb, leb→le, le→leb, not-T}
 use lib.Ieee.Bits.{is-true, is-false}
 use lib.IntN.{ℤ}
 use Rattle.scope.specs.declared.Question.{Question}
 use Rattle.scope.specs.declared.Refusal.{Refusal}
 use Rattle.scope.specs.declared.ReadAnswer.{ReadAnswer}
 use Rattle.scope.specs.declared.BuildAnswer.{BuildAnswer}
-use Rattle.scope.specs.declared.Held.{Held}
 use Rattle.scope.specs.Whole.{atFront}
-use Rattle.scope.specs.Sizes.{mostStates, variablesFit}
+use Rattle.scope.specs.Sizes.{mostStates}
 use Rattle.scope.specs.Wire.{readHeld}
 use Rattle.scope.specs.Words.{Word, letters, spelled, Over}
 use Rattle.scope.specs.States.{satisfied}
@@ -28,6 +26,7 @@ use Rattle.scope.specs.Building.{tableWidth, buildRoom, Built, builtIf, builtQu
 use Rattle.scope.specs.Running.{truthOf, ran}
 use Rattle.theory.specs.Lawful.{Lawful, machine-lawful}
 use Rattle.theory.specs.Reachable.{AtMost, rows-few, room-iff}
+use Rattle.theory.specs.Variables.{accepted-variables}
 use Rattle.theory.specs.Joined.{atFront-cells, atFront-beyond}
 use Rattle.theory.specs.Deciding.{StatesAre, states-unique, states-at-most, states-are, rowsOf, bound-at-most}
 use Rattle.theory.specs.Building.{tableOf, table-size, table-answers}
@@ -165,9 +164,9 @@ module _ (bytes : List ℕ) (keys : List ℤ) (table : List ℕ) (q : Question) 
           record { filled = rw b (atFront-cells cells table _ size); rest = λ i a g. rw b (atFront-beyond cells table i a (omega arith)) }
 
   -- the table alone, run on any word of its letters, says yes exactly if the naturals that the word spells satisfy the question
-  pub built-answers : T (variablesFit (q .n)) → (states : ℕ) → built bytes keys table .answer ≡ BuildAnswer.Built states → (w : Word) → Over (letters (q .n)) w
+  pub built-answers : (states : ℕ) → built bytes keys table .answer ≡ BuildAnswer.Built states → (w : Word) → Over (letters (q .n)) w
       → ran (q .n) (take (states * tableWidth (q .n)) (built bytes keys table .table)) w ≡ truthOf (satisfied q (spelled (q .n) w))
-  built-answers v states e w o = rw (built-hands-over states e .filled) (go (outcome-is e))
+  built-answers states e w o = rw (built-hands-over states e .filled) (go (outcome-is e))
     where
       go : Outcome q (buildRoom q keys table) (BuildAnswer.Built states) → ran (q .n) (tableOf q (buildRoom q keys table)) w ≡ truthOf (satisfied q (spelled (q .n) w))
-      go (by-room s h) = table-answers q (buildRoom q keys table) h v (omega (arith, room-most q keys table)) o
+      go (by-room s h) = table-answers q (buildRoom q keys table) h (accepted-variables bytes q accepted) (omega (arith, room-most q keys table)) o

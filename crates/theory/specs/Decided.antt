@@ -13,13 +13,12 @@ use Rattle.scope.specs.declared.Question.{Question}
 use Rattle.scope.specs.declared.Refusal.{Refusal}
 use Rattle.scope.specs.declared.ReadAnswer.{ReadAnswer}
 use Rattle.scope.specs.declared.DecideAnswer.{DecideAnswer}
-use Rattle.scope.specs.declared.Held.{Held}
 use Rattle.scope.specs.Whole.{atFront}
 use Rattle.scope.specs.Wire.{readHeld}
 use Rattle.scope.specs.Words.{Word}
 use Rattle.scope.specs.Bound.{bound}
 use Rattle.scope.specs.Numbering.{machineOf}
-use Rattle.scope.specs.Deciding.{Verdict, found, never, noRoom, decideRoom, decideAnswer, foundAnswer, foundWord, wordAfter, Decided, decidedQuestion, decidedBy, decided}
+use Rattle.scope.specs.Deciding.{Verdict, found, never, noRoom, decideRoom, decideAnswer, foundAnswer, foundWord, wordAfter, Decided, decidedQuestion, decided}
 use Rattle.theory.specs.Lawful.{Lawful, machine-lawful}
 use Rattle.theory.specs.Verdicts.{NoneOf}
 use Rattle.theory.specs.Reachable.{AtMost, rows-few}
@@ -72,13 +71,13 @@ module _ (q : Question) (r : ℕ) (word : List ℕ) where
 
   by-answered : {a : DecideAnswer} → Answered q r word a → answerOf q r word ≡ a
   by-answered (by-found f h) =
-      let e = found-exactly q r (f .row) .1 (f .found-at) in
-      let b = is-true (leb (length (rowWord q r (f .row))) (length word)) (le→leb (length (rowWord q r (f .row))) (length word) (omega (arith, f .letters-are))) in
-      rw (e, b, f .states-are, f .letters-are)
+      let v : Word = rowWord q r (f .row) in
+      let b = is-true (leb (length v) (length word)) (le→leb (length v) (length word) (omega (arith, f .letters-are))) in
+      rw (found-exactly q r (f .row) .1 (f .found-at), b, f .states-are, f .letters-are)
   by-answered (by-short f h) =
-      let e = found-exactly q r (f .row) .1 (f .found-at) in
-      let b = is-false (leb (length (rowWord q r (f .row))) (length word)) (not-T (leb (length (rowWord q r (f .row))) (length word)) (λ t. omega (arith, f .letters-are, leb→le (length (rowWord q r (f .row))) (length word) t))) in
-      rw (e, b, f .states-are, f .letters-are)
+      let v : Word = rowWord q r (f .row) in
+      let b = is-false (leb (length v) (length word)) (not-T (leb (length v) (length word)) (λ t. omega (arith, f .letters-are, leb→le (length v) (length word) t))) in
+      rw (found-exactly q r (f .row) .1 (f .found-at), b, f .states-are, f .letters-are)
   by-answered (by-never d e) = rw (e, d)
   by-answered (by-no-room d e) = rw (e, d)
 

@@ -1,5 +1,5 @@
 -- Deciding: what found, never and no room say of a question where r rows are lent, in whole-number arithmetic; and that the bound leaves room.
-use mathlib.Core.Path.{_≡_, sym, _∙_}
+use mathlib.Core.Path.{_≡_, refl, sym, _∙_}
 use mathlib.Core.Logic.{_↔_, _≢_, Iff·rfl, Iff·symm, Iff·trans, Iff·and}
 use mathlib.Core.Bool.{true, false, true≢false, not-eq-not}
 use mathlib.Core.List.{List}
@@ -161,3 +161,12 @@ module _ (q : Question) (r : ℕ) where
 
   pub bound-leaves-room : bound q ≤ r → verdictOf q r ≢ noRoom
   bound-leaves-room h e = no-room-exactly .0 e .0 (bound-at-most q r h)
+
+  -- where r rows hold every reachable state and some naturals satisfy the question, a word is found
+  pub satisfied-found : AtMost (machineOf q) r → (xs : List ℕ) → length xs ≡ q .n → satisfied q xs ≡ true → (w : ℕ) × (verdictOf q r ≡ found w)
+  satisfied-found a xs n h = go (verdictOf q r) refl
+    where
+      go : (v : Verdict) → verdictOf q r ≡ v → (w : ℕ) × (verdictOf q r ≡ found w)
+      go (found w) e = (w, e)
+      go never e = absurd (true≢false (sym h ∙ never-exactly .0 e .1 xs n))
+      go noRoom e = absurd (no-room-exactly .0 e .0 a)

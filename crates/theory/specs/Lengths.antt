@@ -1,23 +1,20 @@
 -- Every lent buffer has afterwards the length that it had before, whatever the bytes: the rows counted are at most the rows lent.
-use mathlib.Core.Path.{_≡_, refl, sym, ap, _∙_}
+use mathlib.Core.Path.{_≡_, refl, sym, _∙_}
 use mathlib.Core.Bool.{Bool, true, false}
 use mathlib.Core.List.{List, [], _∷_}
 use Prim.Native.Nat.{ℕ, suc, _*_, _/_, _≤_, _<_}
 use native.Mathlib.Nat.{mul-le-mul-right, div-mul-le-self, le-refl}
 use native.Mathlib.Omega.{arith}
-use lib.ListN.{length, getD, take, length-take, length-map}
+use lib.ListN.{length, take, length-take, length-map}
 use lib.Seq.{getD-take, take-length}
 use lib.Dec.{leb, leb→le}
 use lib.IntN.{ℤ}
 use Rattle.scope.specs.declared.Question.{Question}
 use Rattle.scope.specs.declared.ReadAnswer.{ReadAnswer}
-use Rattle.scope.specs.declared.Held.{Held}
-use Rattle.scope.specs.Whole.{atFront}
-use Rattle.scope.specs.Question.{atomsOf, atomCount}
+use Rattle.scope.specs.Question.{atomCount}
 use Rattle.scope.specs.Refusals.{Progress, stopped, going, ended}
 use Rattle.scope.specs.Wire.{readHeld}
 use Rattle.scope.specs.Writing.{Walk, fitted, wroteOf, written, wrote}
-use Rattle.scope.specs.Words.{Word}
 use Rattle.scope.specs.States.{State, cellOf, cellsOf}
 use Rattle.scope.specs.Numbering.{Row, Rows, machineOf, row, startRow, wordOf}
 use Rattle.scope.specs.Deciding.{Verdict, found, never, noRoom, counted, decideRoom, keyCells, pathCells, foundWord, wordAfter, decidedQuestion, decidedBy, decided}
@@ -26,11 +23,11 @@ use Rattle.theory.specs.Lawful.{machine-lawful}
 use Rattle.theory.specs.Table.{numbered-rooted}
 use Rattle.theory.specs.Firsts.{after-word}
 use Rattle.theory.specs.Verdicts.{never-iff}
-use Rattle.theory.specs.Range.{StateIn, length-in}
+use Rattle.theory.specs.Range.{length-in}
 use Rattle.theory.specs.Bounded.{rows-in}
 use Rattle.theory.specs.Joined.{joined-length, atFront-length}
-use Rattle.theory.specs.Deciding.{rowsOf, rowWord, verdictOf, found-exactly}
-use Rattle.theory.specs.Building.{tableOf, table-size}
+use Rattle.theory.specs.Deciding.{rowsOf, verdictOf, found-exactly}
+use Rattle.theory.specs.Building.{table-size}
 
 -- ---- rows of w cells
 

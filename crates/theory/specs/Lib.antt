@@ -42,6 +42,7 @@ pub mod Stopped
 pub mod WritingStopped
 pub mod Answers
 pub mod Buffers
+pub mod Variables
 pub mod Joined
 pub mod Deciding
 pub mod Decided
