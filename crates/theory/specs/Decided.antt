@@ -160,7 +160,7 @@ module _ (bytes : List ℕ) (keys : List ℤ) (path word : List ℕ) (q : Questi
   unfolding decided
   decided-accepted = rw accepted
 
-  decided-answer : decided bytes keys path word .answer ≡ answerOf q (decideRoom q keys path) word
+  pub decided-answer : decided bytes keys path word .answer ≡ answerOf q (decideRoom q keys path) word
   unfolding decidedQuestion
   decided-answer = ap (λ (d : Decided). d .answer) decided-accepted
 

@@ -12,7 +12,7 @@ use Rattle.scope.specs.Words.{letters, Word, spelled, _≼_, Over}
 use Rattle.scope.specs.States.{State, satisfied}
 use Rattle.scope.specs.Bound.{bound}
 use Rattle.scope.specs.Numbering.{Machine, Rows, machineOf, row, numbered, wordOf}
-use Rattle.scope.specs.Deciding.{Verdict, found, never, noRoom, verdict}
+use Rattle.scope.specs.Deciding.{Verdict, found, never, noRoom, verdict, counted}
 use Rattle.theory.specs.Order.{≼-antisym, ≼-not-≻}
 use Rattle.theory.specs.Lawful.{Lawful, machine-lawful}
 use Rattle.theory.specs.Table.{Rooted, numbered-rooted}
@@ -56,6 +56,10 @@ rowWord q r t = wordOf (machineOf q) (rowsOf q r) t
 
 abbrev pub verdictOf : Question → ℕ → Verdict
 verdictOf q r = verdict (machineOf q) r (rowsOf q r)
+
+-- the rows of every state counted
+abbrev pub countedRows : Question → ℕ → Rows State
+countedRows q r = counted (verdictOf q r) r (rowsOf q r)
 
 module _ (q : Question) where
   pub to-machine : {w : Word} → Over (letters (q .n)) w → Over (machineOf q .letters) w

@@ -26,7 +26,7 @@ use Rattle.theory.specs.Verdicts.{never-iff}
 use Rattle.theory.specs.Range.{length-in}
 use Rattle.theory.specs.Bounded.{rows-in}
 use Rattle.theory.specs.Joined.{joined-length, atFront-length}
-use Rattle.theory.specs.Deciding.{rowsOf, verdictOf, found-exactly}
+use Rattle.theory.specs.Deciding.{rowsOf, verdictOf, countedRows, found-exactly}
 use Rattle.theory.specs.Building.{table-size}
 
 -- ---- rows of w cells
@@ -57,27 +57,27 @@ module _ (q : Question) (r : ℕ) where
           rw (getD-take k (rowsOf q r) t (startRow (machineOf q)) a) (key-row t (omega (arith, length-take k (rowsOf q r))))
 
   -- the rows counted are the first k, and k is at most r
-  record Counted (v : Verdict) : Type 0 where
-    k : ℕ
-    few : k ≤ r
-    are : counted v r (rowsOf q r) ≡ take k (rowsOf q r)
+  pub record Counted (v : Verdict) : Type 0 where
+    pub k : ℕ
+    pub few : k ≤ r
+    pub are : counted v r (rowsOf q r) ≡ take k (rowsOf q r)
 
-  counted-are : (v : Verdict) → verdictOf q r ≡ v → Counted v
+  pub counted-are : (v : Verdict) → verdictOf q r ≡ v → Counted v
   counted-are (found w) e = let f = found-exactly q r w .0 e in record { k = suc w; few = f .room; are = refl }
   counted-are never e = record { k = length (rowsOf q r); few = never-iff (machineOf q) (machine-lawful q) r .0 e .room; are = sym (take-length (rowsOf q r)) }
   counted-are noRoom e = record { k = r; few = le-refl r; are = refl }
 
-  counted-few : length (counted (verdictOf q r) r (rowsOf q r)) ≤ r
+  counted-few : length (countedRows q r) ≤ r
   counted-few = let c = counted-are (verdictOf q r) refl in rw (c .are) (omega (arith, length-take (c .k) (rowsOf q r), c .few))
 
   -- so their cells have room in areas of r rows
-  counted-keys : (size : ℕ) → r ≤ size / atomCount q → length (keyCells (counted (verdictOf q r) r (rowsOf q r))) ≤ size
+  counted-keys : (size : ℕ) → r ≤ size / atomCount q → length (keyCells (countedRows q r)) ≤ size
   counted-keys size h =
       let c = counted-are (verdictOf q r) refl in
       rw (c .are, keys-length (c .k)) (rows-fit (length (take (c .k) (rowsOf q r))) (atomCount q) size (omega (arith, length-take (c .k) (rowsOf q r), c .few)))
 
-  counted-path : (size : ℕ) → r ≤ size / 2 → length (pathCells (counted (verdictOf q r) r (rowsOf q r))) ≤ size
-  counted-path size h = rw (path-length (counted (verdictOf q r) r (rowsOf q r))) (omega (arith, counted-few))
+  counted-path : (size : ℕ) → r ≤ size / 2 → length (pathCells (countedRows q r)) ≤ size
+  counted-path size h = rw (path-length (countedRows q r)) (omega (arith, counted-few))
 
 -- ---- deciding
 

@@ -49,4 +49,5 @@ pub mod Decided
 pub mod Building
 pub mod Built
 pub mod Lengths
+pub mod Areas
 pub mod Agreement
