@@ -44,6 +44,18 @@ pub record RowFound (q : Question) (r states k : ℕ) : Type 0 where
 pub letters-fewer : {q : Question} {r states k : ℕ} → RowFound q r states k → k < states
 letters-fewer {q} {r} f = omega (arith, f .states-are, f .letters-are, found-short q r (f .row) (f .found-at))
 
+-- the reachable states are so many, the rows lent hold them, and no naturals satisfy the question
+pub record NeverAt (q : Question) (r states : ℕ) : Type 0 where
+  pub states-are : StatesAre (machineOf q) states
+  pub room : states ≤ r
+  pub none-satisfies : NoneSatisfies q
+
+-- the reachable states are more than the rows lent, and none of the first r accepts
+pub record NoRoomAt (q : Question) (r states : ℕ) : Type 0 where
+  pub states-are : states ≡ r
+  pub more : ¬ AtMost (machineOf q) r
+  pub none-accepts : NoneOf (machineOf q) (rowsOf q r) r
+
 -- by what an answer is given
 data Answered (q : Question) (r : ℕ) (word : List ℕ) : DecideAnswer → Type 0 where
   by-found : {states k : ℕ} → RowFound q r states k → k ≤ length word → Answered q r word (DecideAnswer.Found states k)
@@ -93,30 +105,29 @@ module _ (q : Question) (r : ℕ) (word : List ℕ) where
       go : Answered q r word (DecideAnswer.Short states k) → RowFound q r states k × (length word < k)
       go (by-short f h) = (f, h)
 
-  pub answers-never : (states : ℕ) → (answerOf q r word ≡ DecideAnswer.Never states) ↔ (StatesAre (machineOf q) states × (states ≤ r) × NoneSatisfies q)
+  pub answers-never : (states : ℕ) → (answerOf q r word ≡ DecideAnswer.Never states) ↔ NeverAt q r states
   answers-never states = (λ e. go (rw e at answered), back)
     where
       ok : Lawful (machineOf q)
       ok = machine-lawful q
 
-      go : Answered q r word (DecideAnswer.Never states) → StatesAre (machineOf q) states × (states ≤ r) × NoneSatisfies q
+      go : Answered q r word (DecideAnswer.Never states) → NeverAt q r states
       go (by-never d e) =
           let n = never-exactly q r .0 e in
           let h = rows-few (machineOf q) ok r (n .0) in
-          (rw d (states-are (machineOf q) ok r h), omega arith, n .1)
+          record { states-are = rw d (states-are (machineOf q) ok r h); room = omega arith; none-satisfies = n .1 }
 
-      back : StatesAre (machineOf q) states × (states ≤ r) × NoneSatisfies q → answerOf q r word ≡ DecideAnswer.Never states
-      back (s, h, n) =
-          let a = states-at-most r s .0 h in
-          let f = rows-few (machineOf q) ok r a in
-          by-answered (by-never (states-unique s (states-are (machineOf q) ok r f)) (never-exactly q r .1 (a, n)))
+      back : NeverAt q r states → answerOf q r word ≡ DecideAnswer.Never states
+      back n =
+          let a = states-at-most r (n .states-are) .0 (n .room) in
+          let h = rows-few (machineOf q) ok r a in
+          by-answered (by-never (states-unique (n .states-are) (states-are (machineOf q) ok r h)) (never-exactly q r .1 (a, n .none-satisfies)))
 
-  pub answers-no-room : (states : ℕ)
-      → (answerOf q r word ≡ DecideAnswer.NoRoom states) ↔ ((states ≡ r) × (¬ AtMost (machineOf q) r) × NoneOf (machineOf q) (rowsOf q r) r)
-  answers-no-room states = (λ e. go (rw e at answered), λ (d, a, n). by-answered (by-no-room d (no-room-exactly q r .1 (a, n))))
+  pub answers-no-room : (states : ℕ) → (answerOf q r word ≡ DecideAnswer.NoRoom states) ↔ NoRoomAt q r states
+  answers-no-room states = (λ e. go (rw e at answered), λ n. by-answered (by-no-room (n .states-are) (no-room-exactly q r .1 (n .more, n .none-accepts))))
     where
-      go : Answered q r word (DecideAnswer.NoRoom states) → (states ≡ r) × (¬ AtMost (machineOf q) r) × NoneOf (machineOf q) (rowsOf q r) r
-      go (by-no-room d e) = let n = no-room-exactly q r .0 e in (d, n .0, n .1)
+      go : Answered q r word (DecideAnswer.NoRoom states) → NoRoomAt q r states
+      go (by-no-room d e) = let n = no-room-exactly q r .0 e in record { states-are = d; more = n .0; none-accepts = n .1 }
 
   pub answers-refused : (f : Refusal) → answerOf q r word ≢ DecideAnswer.Refused f
   answers-refused f e = go (rw e at answered)
@@ -176,13 +187,10 @@ module _ (bytes : List ℕ) (keys : List ℤ) (path word : List ℕ) (q : Questi
       → (decided bytes keys path word .answer ≡ DecideAnswer.Short states k) ↔ (RowFound q (decideRoom q keys path) states k × (length word < k))
   says-short states k = rw decided-answer (answers-short q (decideRoom q keys path) word states k)
 
-  pub says-never : (states : ℕ)
-      → (decided bytes keys path word .answer ≡ DecideAnswer.Never states) ↔ (StatesAre (machineOf q) states × (states ≤ decideRoom q keys path) × NoneSatisfies q)
+  pub says-never : (states : ℕ) → (decided bytes keys path word .answer ≡ DecideAnswer.Never states) ↔ NeverAt q (decideRoom q keys path) states
   says-never states = rw decided-answer (answers-never q (decideRoom q keys path) word states)
 
-  pub says-no-room : (states : ℕ)
-      → (decided bytes keys path word .answer ≡ DecideAnswer.NoRoom states)
-      ↔ ((states ≡ decideRoom q keys path) × (¬ AtMost (machineOf q) (decideRoom q keys path)) × NoneOf (machineOf q) (rowsOf q (decideRoom q keys path)) (decideRoom q keys path))
+  pub says-no-room : (states : ℕ) → (decided bytes keys path word .answer ≡ DecideAnswer.NoRoom states) ↔ NoRoomAt q (decideRoom q keys path) states
   says-no-room states = rw decided-answer (answers-no-room q (decideRoom q keys path) word states)
 
   pub says-not-refused : (f : Refusal) → decided bytes keys path word .answer ≢ DecideAnswer.Refused f
@@ -193,16 +201,16 @@ module _ (bytes : List ℕ) (keys : List ℤ) (path word : List ℕ) (q : Questi
   never-said = (said, back)
     where
       said : (states : ℕ) × (decided bytes keys path word .answer ≡ DecideAnswer.Never states) → AtMost (machineOf q) (decideRoom q keys path) × NoneSatisfies q
-      said (states, e) = let n = says-never states .0 e in (states-at-most (decideRoom q keys path) (n .0) .0 (n .1), n .2)
+      said (states, e) = let n = says-never states .0 e in (states-at-most (decideRoom q keys path) (n .states-are) .0 (n .room), n .none-satisfies)
 
       back : AtMost (machineOf q) (decideRoom q keys path) × NoneSatisfies q → (states : ℕ) × (decided bytes keys path word .answer ≡ DecideAnswer.Never states)
       back (a, n) =
           let h = rows-few (machineOf q) (machine-lawful q) (decideRoom q keys path) a in
           let s = states-are (machineOf q) (machine-lawful q) (decideRoom q keys path) h in
-          (length (rowsOf q (decideRoom q keys path)), says-never _ .1 (s, h, n))
+          (length (rowsOf q (decideRoom q keys path)), says-never _ .1 (record { states-are = s; room = h; none-satisfies = n }))
 
   pub bound-is-room : (states : ℕ) → bound q ≤ decideRoom q keys path → decided bytes keys path word .answer ≢ DecideAnswer.NoRoom states
-  bound-is-room states h e = says-no-room states .0 e .1 (bound-at-most q (decideRoom q keys path) h)
+  bound-is-room states h e = says-no-room states .0 e .more (bound-at-most q (decideRoom q keys path) h)
 
   -- found hands over the first satisfying word: its k letters stand at the front of the word buffer, the rest of which is as it was
   pub record HandedOver (k : ℕ) : Type 0 where
