@@ -1,0 +1,20 @@
+-- `step::worth_cell` meets its contract: the tests are those of the definition. Assumes nothing.
+use mathlib.Core.Path.{_≡_, refl}
+use mir.Syntax.{w32}
+use mir.ValLaws.{toZ-ofZ}
+use Rattle.step.proofs.Signed.{zero-bits, kind-equation, kind-atMost}
+use Rattle.step.proofs.worth_cell.Statement.{statement}
+use Rattle.step.proofs.worth_cell.Tie as tie
+
+returns : tie.Need-returns
+returns c =
+    let a = c .before .args in
+    rw (kind-equation (a .kind) (c .if1 .taken)) (zero-bits (a .cell) (c .before .fits .cell))
+
+returns-2 : tie.Need-returns-2
+returns-2 c =
+    let a = c .before .args in
+    rw (kind-atMost (a .kind) (c .if1 .left), toZ-ofZ w32 (a .cell) (c .before .fits .cell))
+
+pub worth-cell-spec : {M : Type 1} → statement M
+worth-cell-spec = tie.close (tie.spec returns returns-2)

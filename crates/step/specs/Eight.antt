@@ -1,0 +1,54 @@
+-- Lists by their elements, and such a list in an array of eight with the rest filled up.
+use mathlib.Core.Path.{_≡_, refl, sym, ap, _∙_}
+use mathlib.Core.List.{List, [], _∷_, _++_, append-assoc}
+use Prim.Native.Nat.{ℕ, zero, suc, _+_, _-_, _≤_, _<_}
+use native.Mathlib.Omega.{arith}
+use native.Mathlib.Decide.{decLt}
+use native.Mathlib.Numerals.{add-one}
+use mathlib.Core.Logic.{by-cases}
+use lib.ListN.{length, getD, take, set, replicate, length-append, length-replicate, List·getD-append}
+use lib.Seq.{set-append-seam, getD-at, take-at}
+
+-- f 0, f 1, .., the first n
+unfoldable pub listed {ℓ} : {A : Type ℓ} → (ℕ → A) → ℕ → List A
+listed f zero = []
+listed f (suc n) = listed f n ++ (f n ∷ [])
+
+-- a list of at most eight, filled up with z
+unfoldable pub padded {ℓ} : {A : Type ℓ} → A → List A → List A
+padded z l = l ++ replicate (8 - length l) z
+
+module _ {ℓ} {A : Type ℓ} where
+  pub length-listed : (f : ℕ → A) (n : ℕ) → length (listed f n) ≡ n
+  unfolding listed
+  length-listed f zero = refl
+  length-listed f (suc n) = simp (length-append, length-listed f n) (omega arith)
+
+  pub getD-listed : (f : ℕ → A) (n i : ℕ) (d : A) → i < n → getD (listed f n) i d ≡ f i
+  unfolding listed
+  getD-listed f zero i d h = absurd (omega arith)
+  getD-listed f (suc n) i d h =
+      by-cases (decLt i n)
+      (λ p. List·getD-append (listed f n) (f n ∷ []) d i (rw (length-listed f n) p) ∙ getD-listed f n i d p)
+      (λ p. let e : n ≡ i = omega arith in rw (← e) (getD-at (listed f n) (f n) [] d n (length-listed f n)))
+
+  pub length-padded : (z : A) (l : List A) → length l ≤ 8 → length (padded z l) ≡ 8
+  unfolding padded
+  length-padded z l h = simp (length-append, length-replicate) (omega arith)
+
+  pub take-padded : (z : A) (l : List A) (n : ℕ) → length l ≡ n → take n (padded z l) ≡ l
+  unfolding padded
+  take-padded z l n h = take-at l (replicate (8 - length l) z) n h
+
+  pub padded-next : (z v : A) (l : List A) → length l < 8 → set (padded z l) (length l) v ≡ padded z (l ++ (v ∷ []))
+  unfolding padded
+  padded-next z v l h =
+      let e : 8 - length l ≡ suc (8 - (length l + 1)) = omega arith in
+      rw (e, length-append) (set-append-seam l z (replicate (8 - (length l + 1)) z) v ∙ sym (append-assoc l (v ∷ []) (replicate (8 - (length l + 1)) z)))
+
+  -- one more element stored
+  pub listed-next : (z : A) (f : ℕ → A) (i : ℕ) → i < 8 → set (padded z (listed f i)) i (f i) ≡ padded z (listed f (i + 1))
+  unfolding listed
+  listed-next z f i h =
+      let e = length-listed f i in
+      rw (add-one i) (ap (λ (k : ℕ). set (padded z (listed f i)) k (f i)) (sym e) ∙ padded-next z (f i) (listed f i) (rw e h))

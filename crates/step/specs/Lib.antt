@@ -1,0 +1,3 @@
+-- What a letter does to a key row, and what the row's atoms are worth.
+pub mod Eight
+pub mod Cells
