@@ -1,0 +1,3 @@
+-- Laws on plain values, for the proofs of this crate.
+mod Cells
+mod Buckets
