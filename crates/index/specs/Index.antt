@@ -58,7 +58,7 @@ pub record Room (keys : List ℤ) (m : ℕ) (next : List ℕ) (count : ℕ) : Ty
   pub cells : count * m + m ≤ length keys
 
 -- count rows are there, with a link for each
-pub record Rows (keys : List ℤ) (m : ℕ) (next : List ℕ) (count : ℕ) : Type 0 where
+pub record RowsFit (keys : List ℤ) (m : ℕ) (next : List ℕ) (count : ℕ) : Type 0 where
   pub numbers : count ≤ 65535
   pub links : count ≤ length next
   pub cells : count * m ≤ length keys

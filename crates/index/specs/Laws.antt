@@ -8,9 +8,9 @@ use native.Mathlib.Numerals.{add-one}
 use native.Mathlib.Decide.{ℕ-discrete, decLt}
 use native.Mathlib.Omega.{arith}
 use lib.ListN.{length, getD, set, take, replicate, length-set, length-take, length-replicate, getD-replicate}
-use lib.Seq.{getD-set-same, getD-set-other}
+use lib.Seq.{getD-set-same, getD-set-other, paste}
 use lib.IntN.{ℤ}
-use Rattle.index.specs.Rows.{rowAt, front-row}
+use Rattle.index.specs.Rows.{rowAt, front-row, stored-front, stored-row}
 use Rattle.index.specs.Hash.{bucketOf}
 use Rattle.index.specs.Index.{after, Latest, bucketAt, Newest, Indexed}
 
@@ -91,6 +91,14 @@ front-indexed {new} {old} {m} {count} {head} {next} e ix = record {
   where
     same : (s : ℕ) → s < count → bucketAt new m (length head) s ≡ bucketAt old m (length head) s
     same s h = ap (bucketOf (length head)) (front-row new old m count s e h)
+
+-- a key is stored as row count
+module _ (keys new key : List ℤ) (m count : ℕ) (room : count * m + m ≤ length keys) (stored : new ≡ paste keys (count * m) key m) where
+  pub stored-indexed : {head next : List ℕ} → Indexed keys m head next count → Indexed new m head next count
+  stored-indexed ix = front-indexed (rw stored (stored-front keys key m count room)) ix
+
+  pub stored-key : m ≤ length key → take m key ≡ rowAt new m count
+  stored-key long = rw stored (sym (stored-row keys key m count room long))
 
 -- ---- row count, whose bucket is b, is linked
 

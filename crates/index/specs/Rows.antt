@@ -1,69 +1,101 @@
--- Rows of m cells each in a key area: row s has the m cells from s * m on. Laws on a row's cells, on areas with the same front, and on
--- an area into which a row was stored (`paste` of lib.Seq).
-use mathlib.Core.Path.{_≡_, sym, ap, _∙_}
-use mathlib.Core.List.{List, [], _∷_, _++_, append-assoc}
+-- Rows of m cells each in an area: row s has the m cells from s * m on. Laws on a row's cells, on areas with the same front, on an area
+-- into which a row was stored (`paste` of lib.Seq), and on one that is filled row by row from its front.
+use mathlib.Core.Path.{_≡_, refl, sym, ap, _∙_}
+use mathlib.Core.List.{List, [], _∷_, _++_, append-assoc, append-nil}
 use Prim.Native.Nat.{ℕ, zero, suc, _+_, _*_, _≤_, _<_}
-use native.Mathlib.Nat.{zero-add, suc-add, suc-mul, mul-le-mul-right}
+use native.Mathlib.Nat.{zero-add, suc-add, add-comm, suc-mul, zero-mul, mul-le-mul-right}
 use native.Mathlib.Omega.{arith}
-use lib.ListN.{length, getD, take, drop, length-take, length-drop}
-use lib.Seq.{ext-getD, getD-take, getD-drop, take-take, take-nil, take-at, drop-at, length-take-le, paste}
-use lib.IntN.{ℤ, pos}
+use lib.ListN.{length, getD, take, drop, length-append, length-take, length-drop}
+use lib.Seq.{ext-getD, getD-take, getD-drop, take-take, take-nil, take-at, drop-at, drop-drop, drop-append-add, take-append-seam, length-take-le, paste}
+use Rattle.scope.specs.Whole.{joined, atFront}
 
-abbrev pub rowAt : List ℤ → ℕ → ℕ → List ℤ
-rowAt keys m s = take m (drop (s * m) keys)
+abbrev pub rowAt : {A : Type 0} → List A → ℕ → ℕ → List A
+rowAt area m s = take m (drop (s * m) area)
 
 -- the cells of a row below `count` are among the first count * m
 pub row-end : (s count m : ℕ) → s < count → s * m + m ≤ count * m
 row-end s count m h = rw (← suc-mul s m) (mul-le-mul-right m h)
 
--- ---- a row, cell by cell
+module _ {A : Type 0} where
+  -- ---- a row, cell by cell
 
-pub row-cell : (keys : List ℤ) (m s i : ℕ) → i < m → getD (rowAt keys m s) i (pos 0) ≡ getD keys (s * m + i) (pos 0)
-row-cell keys m s i h = rw (getD-take, getD-drop)
+  pub row-cell : (area : List A) (m s i : ℕ) (d : A) → i < m → getD (rowAt area m s) i d ≡ getD area (s * m + i) d
+  row-cell area m s i d h = rw (getD-take, getD-drop)
 
-pub row-length : (keys : List ℤ) (m s : ℕ) → s * m + m ≤ length keys → length (rowAt keys m s) ≡ m
-row-length keys m s h = simp (length-take, length-drop) (omega arith)
+  pub row-length : (area : List A) (m s : ℕ) → s * m + m ≤ length area → length (rowAt area m s) ≡ m
+  row-length area m s h = simp (length-take, length-drop) (omega arith)
 
-module _ (keys key : List ℤ) (m s : ℕ) where
-  -- a row with the first m cells of a key is that row, and no other has them
-  pub row-is : s * m + m ≤ length keys → m ≤ length key
-      → ((i : ℕ) → i < m → getD keys (s * m + i) (pos 0) ≡ getD key i (pos 0)) → rowAt keys m s ≡ take m key
-  row-is room long same =
-      ext-getD (pos 0) (rowAt keys m s) (take m key) (row-length keys m s room ∙ sym (length-take-le m key long))
-      (λ i h. let l : i < m = omega (arith, row-length keys m s room) in row-cell keys m s i l ∙ same i l ∙ sym (getD-take m key i (pos 0) l))
+  -- where row s fits: it is the key's first m cells exactly if each cell is the key's
+  module _ (area key : List A) (m s : ℕ) where
+    pub row-is : (d : A) → s * m + m ≤ length area → m ≤ length key
+        → ((i : ℕ) → i < m → getD area (s * m + i) d ≡ getD key i d) → rowAt area m s ≡ take m key
+    row-is d room long same =
+        ext-getD d (rowAt area m s) (take m key) (row-length area m s room ∙ sym (length-take-le m key long))
+        (λ i h. let l : i < m = omega (arith, row-length area m s room) in row-cell area m s i d l ∙ same i l ∙ sym (getD-take m key i d l))
 
-  pub row-cells : rowAt keys m s ≡ take m key → (i : ℕ) → i < m → getD keys (s * m + i) (pos 0) ≡ getD key i (pos 0)
-  row-cells e i h = sym (row-cell keys m s i h) ∙ ap (λ (l : List ℤ). getD l i (pos 0)) e ∙ getD-take m key i (pos 0) h
+    pub row-cells : (d : A) → rowAt area m s ≡ take m key → (i : ℕ) → i < m → getD area (s * m + i) d ≡ getD key i d
+    row-cells d e i h = sym (row-cell area m s i d h) ∙ ap (λ (l : List A). getD l i d) e ∙ getD-take m key i d h
 
-  -- the key is long enough
-  pub row-key : s * m + m ≤ length keys → take m key ≡ rowAt keys m s → m ≤ length key
-  row-key room e = omega (arith, length-take m key, ap length e, row-length keys m s room)
+    -- and then the key is long enough
+    pub row-key : s * m + m ≤ length area → take m key ≡ rowAt area m s → m ≤ length key
+    row-key room e = omega (arith, length-take m key, ap length e, row-length area m s room)
 
--- ---- areas with the same front have the same rows there
+  -- ---- areas with the same front have the same rows there
 
-drop-take : (a b : ℕ) (l : List ℤ) → drop a (take (a + b) l) ≡ take b (drop a l)
-drop-take zero b l = rw zero-add
-drop-take (suc a) b [] = rw (suc-add, take-nil b)
-drop-take (suc a) b (z ∷ l) = rw (suc-add, drop-take a b l)
+  drop-take : (a b : ℕ) (l : List A) → drop a (take (a + b) l) ≡ take b (drop a l)
+  drop-take zero b l = rw zero-add
+  drop-take (suc a) b [] = rw (suc-add, take-nil b)
+  drop-take (suc a) b (z ∷ l) = rw (suc-add, drop-take a b l)
 
-pub front-row : (new old : List ℤ) (m count s : ℕ) → take (count * m) new ≡ take (count * m) old → s < count → rowAt new m s ≡ rowAt old m s
-front-row new old m count s e h =
-    let k : s * m + m ≤ count * m = row-end s count m h in
-    let front : take (s * m + m) new ≡ take (s * m + m) old =
-    sym (take-take (s * m + m) (count * m) new k) ∙ ap (take (s * m + m)) e ∙ take-take (s * m + m) (count * m) old k in
-    sym (drop-take (s * m) m new) ∙ ap (drop (s * m)) front ∙ drop-take (s * m) m old
+  pub front-row : (new old : List A) (m count s : ℕ) → take (count * m) new ≡ take (count * m) old → s < count → rowAt new m s ≡ rowAt old m s
+  front-row new old m count s e h =
+      let k : s * m + m ≤ count * m = row-end s count m h in
+      let front : take (s * m + m) new ≡ take (s * m + m) old =
+      sym (take-take (s * m + m) (count * m) new k) ∙ ap (take (s * m + m)) e ∙ take-take (s * m + m) (count * m) old k in
+      sym (drop-take (s * m) m new) ∙ ap (drop (s * m)) front ∙ drop-take (s * m) m old
 
--- ---- an area into which the first m cells of a key were stored as row s
+  -- ---- an area into which the key's first m cells were stored as row s
 
-module _ (keys key : List ℤ) (m s : ℕ) (room : s * m + m ≤ length keys) where
-  front-length : length (take (s * m) keys) ≡ s * m
-  front-length = length-take-le (s * m) keys (omega arith)
+  module _ (area key : List A) (m s : ℕ) (room : s * m + m ≤ length area) where
+    front-length : length (take (s * m) area) ≡ s * m
+    front-length = length-take-le (s * m) area (omega arith)
 
-  pub stored-front : take (s * m) (paste keys (s * m) key m) ≡ take (s * m) keys
-  stored-front = rw append-assoc (take-at (take (s * m) keys) (take m key ++ drop (s * m + m) keys) (s * m) front-length)
+    pub stored-front : take (s * m) (paste area (s * m) key m) ≡ take (s * m) area
+    stored-front = rw append-assoc (take-at (take (s * m) area) (take m key ++ drop (s * m + m) area) (s * m) front-length)
 
-  pub stored-row : m ≤ length key → rowAt (paste keys (s * m) key m) m s ≡ take m key
-  stored-row long =
-      rw append-assoc
-      (ap (take m) (drop-at (take (s * m) keys) (take m key ++ drop (s * m + m) keys) (s * m) front-length)
-      ∙ take-at (take m key) (drop (s * m + m) keys) m (length-take-le m key long))
+    pub stored-row : m ≤ length key → rowAt (paste area (s * m) key m) m s ≡ take m key
+    stored-row long =
+        rw append-assoc
+        (ap (take m) (drop-at (take (s * m) area) (take m key ++ drop (s * m + m) area) (s * m) front-length)
+        ∙ take-at (take m key) (drop (s * m + m) area) m (length-take-le m key long))
+
+  -- ---- an area that is filled row by row from its front
+
+  abbrev pub Wide : ℕ → List (List A) → Type 0
+  Wide m rows = (i : ℕ) → i < length rows → length (getD rows i []) ≡ m
+
+  pub joined-append : (rows more : List (List A)) → joined (rows ++ more) ≡ joined rows ++ joined more
+  unfolding joined
+  joined-append [] more = refl
+  joined-append (l ∷ rows) more = rw (joined-append rows more, append-assoc)
+
+  pub joined-length : (m : ℕ) (rows : List (List A)) → Wide m rows → length (joined rows) ≡ length rows * m
+  unfolding joined
+  joined-length m [] wide = rw zero-mul
+  joined-length m (l ∷ rows) wide =
+      rw (length-append, suc-mul) (omega (arith, wide 0 (omega arith), joined-length m rows (λ i h. wide (suc i) (omega arith))))
+
+  pub joined-row : (m : ℕ) (rows : List (List A)) (rest : List A) (s : ℕ) → Wide m rows → s < length rows
+      → rowAt (joined rows ++ rest) m s ≡ getD rows s []
+  unfolding joined
+  joined-row m [] rest s wide h = absurd (omega arith)
+  joined-row m (l ∷ rows) rest zero wide h = rw (zero-mul, append-assoc) (take-at l (joined rows ++ rest) m (wide 0 (omega arith)))
+  joined-row m (l ∷ rows) rest (suc s) wide h =
+      rw (suc-mul, add-comm (s * m) m, append-assoc, ← drop-drop (s * m) m (l ++ (joined rows ++ rest)), drop-at l (joined rows ++ rest) m (wide 0 (omega arith)))
+      (joined-row m rows rest s (λ i k. wide (suc i) (omega arith)) (omega arith))
+
+  pub stored-at-front : (cells area key : List A) (m : ℕ) → m ≤ length key → length cells + m ≤ length area
+      → paste (atFront cells area) (length cells) key m ≡ atFront (cells ++ take m key) area
+  unfolding atFront
+  stored-at-front cells area key m long room =
+      rw (take-append-seam, drop-append-add, drop-drop, length-append, length-take-le m key long)

@@ -40,7 +40,7 @@ returns : tie.Need-returns Inv-loop μ-loop
 returns c =
     let start = c .before .before in
     let inv = c .before .loop .inv in (
-      sym (row-is (start .args .keys .now) _ (start .args .m) (start .args .row) (start .pre .1) (omega arith) (λ i l. inv .2 i (omega arith))),
+      sym (row-is (start .args .keys .now) _ (start .args .m) (start .args .row) (pos 0) (start .pre .1) (omega arith) (λ i l. inv .2 i (omega arith))),
       inv .1,
     )
 

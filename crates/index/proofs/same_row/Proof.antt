@@ -23,7 +23,7 @@ loop-holds : tie.Need-loop-holds Inv-loop μ-loop
 loop-holds c = (search needs, below-none _)
 
 returns : tie.Need-returns Inv-loop μ-loop
-returns c = λ e. c .if1 .taken (ap (ofZ w32) (row-cells _ _ _ _ e _ (c .before .before .before .loop-test .taken)))
+returns c = λ e. c .if1 .taken (ap (ofZ w32) (row-cells _ _ _ _ (pos 0) e _ (c .before .before .before .loop-test .taken)))
 
 loop-again : tie.Need-loop-again Inv-loop μ-loop
 loop-again c =
@@ -32,7 +32,7 @@ loop-again c =
 returns-2 : tie.Need-returns-2 Inv-loop μ-loop
 returns-2 c =
     let pre = c .before .before .pre in
-    row-is _ _ _ _ (pre .2) (pre .1) (λ i l. c .before .loop .inv .1 i (omega arith))
+    row-is _ _ _ _ (pos 0) (pre .2) (pre .1) (λ i l. c .before .loop .inv .1 i (omega arith))
 
 pub same-row-spec : {M : Type 1} → statement M
 same-row-spec =
