@@ -1,20 +1,20 @@
 -- What the code's tests of cells say of them, and a cell's step by those tests. Assumes nothing.
 use mathlib.Core.Path.{_≡_, refl, sym, ap, _∙_}
-use mathlib.Core.Logic.{_≢_, _⊎_, inl, inr}
-use mathlib.Core.Bool.{Bool, true, false, cond}
-use Prim.Native.Nat.{ℕ, zero, suc, _+_, _-_, _%_, _≤_, _<_}
+use mathlib.Core.Logic.{_≢_, inl, inr}
+use mathlib.Core.Bool.{true, false}
+use Prim.Native.Nat.{ℕ, zero, suc, _-_, _%_, _≤_, _<_}
 use native.Mathlib.Omega.{arith}
-use borrow.Author.Tests.{eq-eqb, ne-eqb, eqb-true}
-use lib.Dec.{T, eqb}
+use borrow.Author.Tests.{eq-eqb, ne-eqb}
+use lib.Dec.{eqb}
 use lib.IntN.{ℤ, pos, negsuc, negℤ, natAbs, _-ℤ_}
 use lib.Signed.{mag, remZ}
 use mir.Syntax.{w32}
 use mir.Val.{SFits, ofZ, toZ}
 use mir.ValLaws.{toZ-ofZ}
 use Rattle.scope.specs.Whole.{eqZ, even, half}
-use Rattle.scope.specs.Question.{Kind, equation, atMost}
-use Rattle.scope.specs.States.{deadCell, cellOf, halved, worthLive}
-use Rattle.theory.specs.Integers.{eqZ→eq, eq→eqZ}
+use Rattle.scope.specs.Question.{equation, atMost}
+use Rattle.scope.specs.States.{deadCell, cellOf}
+use Rattle.step.specs.Laws.{live-step}
 use Rattle.step.specs.Cells.{kindOf, stepCell, CellFits}
 
 -- a cell, read from its bits
@@ -22,14 +22,6 @@ pub read : (z : ℤ) → mag z < 2147483648 → toZ w32 (ofZ w32 z) ≡ z
 read z h = toZ-ofZ w32 z (record { sfits = h })
 
 -- ---- tests
-
-from-T : (b : Bool) → T b → b ≡ true
-from-T true t = refl
-from-T false t = absurd t
-
-not-from : (b : Bool) → (T b → ⊥) → b ≡ false
-not-from true f = absurd (f tt)
-not-from false f = refl
 
 -- a number whose bits are those of the dead cell is the dead cell
 pub dead-bits : (z : ℤ) → SFits w32 z → ofZ w32 z ≡ 2147483648 → z ≡ deadCell
@@ -63,26 +55,18 @@ kind-equation c e = rw e
 pub kind-atMost : (c : ℕ) → (c ≡ 1 → ⊥) → kindOf c ≡ atMost
 kind-atMost c f = rw (ne-eqb c 1 f)
 
-pub step-dead : (κ : Kind) (cell sum : ℤ) → cell ≡ deadCell → stepCell κ cell sum ≡ deadCell
-unfolding stepCell
-step-dead κ cell sum e = rw e
-
 module _ (cell sum : ℤ) (live : cell ≢ deadCell) where
-  step-live : (κ : Kind) → stepCell κ cell sum ≡ cellOf (halved κ (cell -ℤ sum))
-  unfolding stepCell
-  step-live κ = rw (not-from (eqZ cell deadCell) (λ t. live (eqZ→eq cell deadCell t)))
-
   pub step-odd : even (cell -ℤ sum) ≡ false → stepCell equation cell sum ≡ deadCell
   unfolding cellOf
-  step-odd e = step-live equation ∙ rw e
+  step-odd e = live-step equation cell sum live ∙ rw e
 
   pub step-even : even (cell -ℤ sum) ≡ true → stepCell equation cell sum ≡ half (cell -ℤ sum)
   unfolding cellOf
-  step-even e = step-live equation ∙ rw e
+  step-even e = live-step equation cell sum live ∙ rw e
 
   pub step-atMost : stepCell atMost cell sum ≡ half (cell -ℤ sum)
   unfolding cellOf
-  step-atMost = step-live atMost
+  step-atMost = live-step atMost cell sum live
 
   pub live-fits : CellFits cell → natAbs cell ≤ 1000000
   live-fits (inl e) = absurd (live e)

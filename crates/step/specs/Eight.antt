@@ -6,8 +6,8 @@ use native.Mathlib.Omega.{arith}
 use native.Mathlib.Decide.{decLt}
 use native.Mathlib.Numerals.{add-one}
 use mathlib.Core.Logic.{by-cases}
-use lib.ListN.{length, getD, take, set, replicate, length-append, length-replicate, List·getD-append}
-use lib.Seq.{set-append-seam, getD-at, take-at}
+use lib.ListN.{length, getD, take, set, replicate, length-append, length-replicate, List·getD-append, List·getD-eq-default}
+use lib.Seq.{ext-getD, set-append-seam, getD-at, getD-append-add, take-at}
 
 -- f 0, f 1, .., the first n
 unfoldable pub listed {ℓ} : {A : Type ℓ} → (ℕ → A) → ℕ → List A
@@ -32,6 +32,12 @@ module _ {ℓ} {A : Type ℓ} where
       (λ p. List·getD-append (listed f n) (f n ∷ []) d i (rw (length-listed f n) p) ∙ getD-listed f n i d p)
       (λ p. let e : n ≡ i = omega arith in rw (← e) (getD-at (listed f n) (f n) [] d n (length-listed f n)))
 
+  -- a list is known by its elements
+  pub listed-is : (d : A) (f : ℕ → A) (n : ℕ) (l : List A) → length l ≡ n → ((i : ℕ) → i < n → f i ≡ getD l i d) → listed f n ≡ l
+  listed-is d f n l e same =
+      ext-getD d (listed f n) l (length-listed f n ∙ sym e)
+      (λ i h. let b : i < n = rw (length-listed f n) at h in getD-listed f n i d b ∙ same i b)
+
   pub length-padded : (z : A) (l : List A) → length l ≤ 8 → length (padded z l) ≡ 8
   unfolding padded
   length-padded z l h = simp (length-append, length-replicate) (omega arith)
@@ -39,6 +45,25 @@ module _ {ℓ} {A : Type ℓ} where
   pub take-padded : (z : A) (l : List A) (n : ℕ) → length l ≡ n → take n (padded z l) ≡ l
   unfolding padded
   take-padded z l n h = take-at l (replicate (8 - length l) z) n h
+
+  -- filled up, it reads as before
+  pub getD-padded : (z : A) (l : List A) (i : ℕ) → getD (padded z l) i z ≡ getD l i z
+  unfolding padded
+  getD-padded z l i =
+      by-cases (decLt i (length l))
+      (λ p. List·getD-append l (replicate (8 - length l) z) z i p)
+      (λ p.
+      let e : length l + (i - length l) ≡ i = omega arith in
+      let o : length l ≤ i = omega arith in
+      ap (λ (k : ℕ). getD (l ++ replicate (8 - length l) z) k z) (sym e)
+      ∙ getD-append-add l (replicate (8 - length l) z) (i - length l) z
+      ∙ filled (8 - length l) (i - length l)
+      ∙ sym (List·getD-eq-default l z o))
+    where
+      filled : (n k : ℕ) → getD (replicate n z) k z ≡ z
+      filled zero k = refl
+      filled (suc n) zero = refl
+      filled (suc n) (suc k) = filled n k
 
   pub padded-next : (z v : A) (l : List A) → length l < 8 → set (padded z l) (length l) v ≡ padded z (l ++ (v ∷ []))
   unfolding padded

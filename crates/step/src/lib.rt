@@ -3,7 +3,7 @@ use whole::floor_half;
 ghost use mathlib.Core.Path.{_≡_};
 ghost use mathlib.Core.Bool.{false};
 ghost use Prim.Native.Nat.{_+_, _*_, _^_, _≤_, _<_};
-ghost use lib.ListN.{length, take, drop, getD};
+ghost use lib.ListN.{length, take, drop};
 ghost use lib.IntN.{pos, natAbs};
 ghost use Rattle.theory.specs.Sums.{Small};
 ghost use Rattle.scope.specs.States.{sumAt};

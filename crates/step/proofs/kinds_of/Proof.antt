@@ -1,18 +1,15 @@
 -- `step::kinds_of` meets its contract. The invariant: the kinds of the codes passed are noted, with 0 past them. The measure is 64 less i. Assumes nothing.
-use mathlib.Core.Path.{_≡_, refl, sym, ap, _∙_}
+use mathlib.Core.Path.{sym}
 use mathlib.Core.Logic.{⊎-elim}
-use Prim.Native.Nat.{ℕ, _+_, _-_, _≤_, _<_}
+use Prim.Native.Nat.{_-_, _≤_, _<_}
 use native.Mathlib.Omega.{arith}
 use borrow.Author.Needs.{needs}
-use lib.ListN.{length, getD, take, set}
+use lib.ListN.{length}
 use lib.Seq.{take-all}
-use Rattle.step.specs.Eight.{padded, padded-next}
-use Rattle.step.specs.Cells.{kindCodes}
+use Rattle.step.specs.Eight.{padded}
 use Rattle.step.proofs.KindCodes.{Noted, noted-none, passed, below-eight, noted}
 use Rattle.step.proofs.kinds_of.Statement.{statement}
 use Rattle.step.proofs.kinds_of.Tie as tie
-use Rattle.step.proofs.kinds_of.Reads as reads
-use Rattle.step.proofs.kinds_of.Lts as lts
 
 abbrev Inv-loop : tie.InvT-loop
 Inv-loop codes kinds₀ m₀ i₀ kinds m i = (i ≤ 64) × Noted codes i kinds m

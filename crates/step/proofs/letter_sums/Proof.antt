@@ -1,8 +1,8 @@
 -- `step::letter_sums` meets its contract. The invariant: the sums up to cell k stand. The measure is what is left of the cells. Assumes nothing.
-use mathlib.Core.Path.{_≡_, refl, sym, ap, _∙_}
+use mathlib.Core.Path.{_≡_, refl, _∙_}
 use mathlib.Core.List.{List}
 use mathlib.Core.Logic.{⊎-elim}
-use Prim.Native.Nat.{ℕ, _+_, _*_, _-_, _/_, _%_, _^_, _≤_, _<_}
+use Prim.Native.Nat.{ℕ, _+_, _*_, _-_, _/_, _%_, _≤_, _<_}
 use native.Mathlib.Omega.{arith}
 use borrow.Author.Needs.{needs}
 use borrow.Author.Count.{below-none, below-more}
@@ -13,10 +13,6 @@ use Rattle.scope.specs.States.{sumAt}
 use Rattle.step.proofs.Signed.{read}
 use Rattle.step.proofs.letter_sums.Statement.{statement}
 use Rattle.step.proofs.letter_sums.Tie as tie
-use Rattle.step.proofs.letter_sums.Reads as reads
-use Rattle.step.proofs.letter_sums.Lts as lts
-use Rattle.step.proofs.letters.Reads as letters-reads
-use Rattle.step.proofs.sum_at.Reads as sum-at-reads
 
 -- cell p has its letter's sum of its atom
 abbrev Right : ℕ → ℕ → List ℤ → List ℤ → ℕ → Type 0

@@ -1,5 +1,5 @@
 -- `step::letters` meets its contract: 2 ^ n is at most 64, so nothing is lost. Assumes nothing.
-use mathlib.Core.Path.{_≡_, refl}
+use mathlib.Core.Path.{refl}
 use Prim.Native.Nat.{_^_, _≤_}
 use native.Mathlib.Nat.{one-mul, mod-eq-of-lt}
 use native.Mathlib.Omega.{arith}

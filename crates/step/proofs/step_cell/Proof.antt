@@ -1,5 +1,5 @@
 -- `step::step_cell` meets its contract: a cell that is not dead is small, so the difference fits. Assumes nothing.
-use mathlib.Core.Path.{_≡_, refl, sym, _∙_}
+use mathlib.Core.Path.{_≡_, sym, _∙_}
 use mathlib.Core.Logic.{_≢_, ⊎-elim}
 use mathlib.Core.Bool.{true, false}
 use Prim.Native.Nat.{_≤_}
@@ -11,11 +11,11 @@ use mir.Syntax.{w32}
 use mir.Val.{SFits}
 use mir.ValLaws.{toZ-ofZ}
 use Rattle.scope.specs.Whole.{even, half}
-use Rattle.scope.specs.Question.{equation, atMost}
 use Rattle.scope.specs.States.{deadCell}
 use Rattle.theory.specs.Magnitude.{abs-sub, abs-half, fits-abs}
-use Rattle.step.specs.Cells.{kindOf, stepCell, CellFits}
-use Rattle.step.proofs.Signed.{dead-bits, live-bits, rem-even, rem-odd, kind-equation, kind-atMost, step-dead, step-odd, step-even, step-atMost, live-fits}
+use Rattle.step.specs.Cells.{kindOf, CellFits}
+use Rattle.step.specs.Laws.{dead-step}
+use Rattle.step.proofs.Signed.{dead-bits, live-bits, rem-even, rem-odd, kind-equation, kind-atMost, step-odd, step-even, step-atMost, live-fits}
 use Rattle.step.proofs.step_cell.Statement.{statement}
 use Rattle.step.proofs.step_cell.Tie as tie
 use Rattle.step.proofs.step_cell.Reads as reads
@@ -42,7 +42,7 @@ sizes cell sum f h live =
 returns : tie.Need-returns
 returns c =
     let a = c .before .args in
-    sym (step-dead (kindOf (a .kind)) (a .cell) (a .sum) (dead-bits (a .cell) (c .before .fits .cell) (c .if1 .taken)))
+    sym (dead-step (kindOf (a .kind)) (a .cell) (a .sum) (dead-bits (a .cell) (c .before .fits .cell) (c .if1 .taken)))
 
 at-live : (c : lts.Else1 (floor-half-reads.Asked, floor-half-reads.Learnt) reads.Pre reads.Post) → Sizes (c .before .args .cell) (c .before .args .sum)
 at-live c =

@@ -8,17 +8,15 @@ use native.Mathlib.Omega.{arith}
 use borrow.Author.Needs.{needs}
 use lib.ListN.{length, take, drop, getD, length-take, length-drop}
 use lib.Seq.{getD-take, getD-drop}
-use lib.IntN.{ℤ, pos, _+ℤ_, natAbs}
+use lib.IntN.{ℤ, pos, _+ℤ_}
 use mir.Syntax.{w32}
 use mir.Val.{SFits, toZ, ofZ}
 use mir.ValLaws.{toZ-ofZ}
-use Rattle.scope.specs.States.{sumFrom, sumAt}
+use Rattle.scope.specs.States.{sumFrom}
 use Rattle.theory.specs.Magnitude.{abs-add, fits-abs}
 use Rattle.theory.specs.Sums.{Small, small-getD, sum-fits, next-yes, next-no, half-letter, sum-whole}
 use Rattle.step.proofs.sum_at.Statement.{statement}
 use Rattle.step.proofs.sum_at.Tie as tie
-use Rattle.step.proofs.sum_at.Reads as reads
-use Rattle.step.proofs.sum_at.Lts as lts
 
 abbrev row : ℕ → List ℤ → ℕ → List ℤ
 row n coefficients from = take n (drop from coefficients)

@@ -1,5 +1,4 @@
 -- `step::worth_cell` meets its contract: the tests are those of the definition. Assumes nothing.
-use mathlib.Core.Path.{_≡_, refl}
 use mir.Syntax.{w32}
 use mir.ValLaws.{toZ-ofZ}
 use Rattle.step.proofs.Signed.{zero-bits, kind-equation, kind-atMost}

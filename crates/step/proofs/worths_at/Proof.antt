@@ -1,22 +1,17 @@
-use mathlib.Core.Path.{_≡_, refl, sym, ap, _∙_}
+-- `step::worths_at` meets its contract. The invariant: the first i worths stand, with false past them. The measure is m less i. Assumes nothing.
+use mathlib.Core.Path.{_≡_, refl}
 use mathlib.Core.Bool.{false}
-use Prim.Native.Nat.{ℕ, _+_, _*_, _-_, _≤_, _<_}
+use Prim.Native.Nat.{_+_, _-_, _≤_, _<_}
 use native.Mathlib.Nat.{le-antisymm}
 use native.Mathlib.Omega.{arith}
 use borrow.Author.Needs.{needs}
-use lib.ListN.{length, getD}
-use lib.IntN.{ℤ, pos}
-use mir.Syntax.{w32}
-use mir.Val.{SFits, toZ, ofZ}
-use mir.ValLaws.{toZ-ofZ}
+use lib.ListN.{getD}
+use lib.IntN.{pos}
 use Rattle.step.specs.Eight.{listed, padded, listed-next}
 use Rattle.step.specs.Cells.{worthAt, worthCells}
 use Rattle.step.proofs.Signed.{read}
 use Rattle.step.proofs.worths_at.Statement.{statement}
 use Rattle.step.proofs.worths_at.Tie as tie
-use Rattle.step.proofs.worths_at.Reads as reads
-use Rattle.step.proofs.worths_at.Lts as lts
-use Rattle.step.proofs.worth_cell.Reads as worth-cell-reads
 
 abbrev Inv-loop : tie.InvT-loop
 Inv-loop kinds m keys at worths₀ i₀ worths i = (i ≤ m) × (worths ≡ padded false (worthCells kinds i keys at))
@@ -27,30 +22,6 @@ abbrev μ-loop : tie.MeasureT-loop
 loop-holds : tie.Need-loop-holds Inv-loop μ-loop
 unfolding padded worthCells listed
 loop-holds c = (search needs, refl)
-
-element-copy-out-worth-cell : tie.Need-element-copy-out-worth-cell Inv-loop μ-loop
-element-copy-out-worth-cell c = search needs
-
-add-worth-cell : tie.Need-add-worth-cell Inv-loop μ-loop
-add-worth-cell c = search needs
-
-mul-worth-cell : tie.Need-mul-worth-cell Inv-loop μ-loop
-mul-worth-cell c = search needs
-
-shared-slice-copy-out-worth-cell : tie.Need-shared-slice-copy-out-worth-cell Inv-loop μ-loop
-shared-slice-copy-out-worth-cell c = search needs
-
-worth-cell-requires : tie.Need-worth-cell-requires Inv-loop μ-loop
-worth-cell-requires c κs = search needs
-
-array-write-worths : tie.Need-array-write-worths Inv-loop μ-loop
-array-write-worths c = search needs
-
-add-i : tie.Need-add-i Inv-loop μ-loop
-add-i c = search needs
-
-loop-less : tie.Need-loop-less Inv-loop μ-loop
-loop-less c = search needs
 
 loop-again : tie.Need-loop-again Inv-loop μ-loop
 unfolding worthCells
@@ -70,17 +41,6 @@ returns c = rw (le-antisymm (c .before .loop .inv .0) (c .loop-test .left)) at (
 pub worths-at-spec : {M : Type 1} → statement M
 worths-at-spec =
     tie.close
-    (tie.spec
-    Inv-loop
-    μ-loop
-    loop-holds
-    element-copy-out-worth-cell
-    add-worth-cell
-    mul-worth-cell
-    shared-slice-copy-out-worth-cell
-    worth-cell-requires
-    array-write-worths
-    add-i
-    loop-less
-    loop-again
+    (tie.spec Inv-loop μ-loop loop-holds (λ c. search needs) (λ c. search needs) (λ c. search needs)
+    (λ c. search needs) (λ c κs. search needs) (λ c. search needs) (λ c. search needs) (λ c. search needs) loop-again
     returns)

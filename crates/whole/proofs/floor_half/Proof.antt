@@ -1,7 +1,7 @@
 -- `whole::floor_half` meets its contract. A signed local holds bits, so what the machine computes with is `toZ w (ofZ w z)`; the record Sizes
 -- has that each value on the way fits, and `simp toZ-ofZ` takes every such pair away. Assumes nothing.
 use mathlib.Core.Path.{_≡_, sym, ap, subst}
-use Prim.Native.Nat.{ℕ, _≤_}
+use Prim.Native.Nat.{_≤_}
 use native.Mathlib.Omega.{arith}
 use mathlib.Core.Bool.{Bool, true, false, not}
 use lib.Dec.{T, lit<}

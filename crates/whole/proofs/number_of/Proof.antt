@@ -1,6 +1,4 @@
 -- `whole::number_of` meets its contract: from 2 ^ 31 on, the bits less 2 ^ 32. Assumes nothing.
-use mathlib.Core.Path.{_≡_}
-use lib.IntN.{pos, _-ℤ_}
 use mir.Syntax.{w32, w64}
 use mir.Val.{SFits, toZ}
 use mir.ValLaws.{toZ-ofZ}

@@ -1,5 +1,5 @@
 -- `whole::put_number` meets its contract: the four stores are `sets` of the four bytes. Assumes nothing.
-use mathlib.Core.Path.{_≡_, refl}
+use mathlib.Core.Path.{_≡_}
 use mathlib.Core.List.{List, [], _∷_}
 use Prim.Native.Nat.{ℕ, suc, _+_, _/_, _%_}
 use native.Mathlib.Omega.{arith}

@@ -1,0 +1,203 @@
+-- The code's key rows are the automaton's: where a row has the cells of a state, its target has those of the state's step, and the worths are
+-- the atoms'. The start's cells are the constants.
+use mathlib.Core.Path.{_≡_, refl, sym, ap, _∙_}
+use mathlib.Core.Logic.{_≢_, inl, inr}
+use mathlib.Core.Bool.{Bool, true, false}
+use mathlib.Core.List.{List, [], _∷_}
+use Prim.Native.Nat.{ℕ, zero, suc, _+_, _*_, _^_, _≤_, _<_}
+use native.Mathlib.Omega.{arith}
+use lib.Dec.{T}
+use lib.Pow.{pow-mono}
+use lib.ListN.{length, getD, take, drop, length-map, length-take, List·getD-map}
+use lib.Seq.{ext-getD, getD-take, getD-drop}
+use lib.IntN.{ℤ, pos, _-ℤ_}
+use Rattle.scope.specs.declared.Question.{Question}
+use Rattle.scope.specs.Whole.{eqZ}
+use Rattle.scope.specs.Question.{Kind, equation, atMost, Atom, atomsOf, atomCount}
+use Rattle.scope.specs.States.{Entry, dead, live, State, deadCell, cellOf, cellsOf, sumAt, startEntry, startOf, halved, stepEntry, stepOf, worth, worthsOf}
+use Rattle.theory.specs.Integers.{eqZ→eq}
+use Rattle.theory.specs.Range.{EntryIn, in-dead, in-live, StateIn, length-in, entry-in}
+use Rattle.theory.specs.Cells.{AtomFits, fits-at, sum-size, live-size, live-not-dead}
+use Rattle.step.specs.Eight.{length-listed, listed-is, padded, length-padded, take-padded, getD-padded}
+use Rattle.step.specs.Cells.{kindOf, kindCodes, stepCell, worthCell, stepAt, stepCells, worthAt, worthCells, CellFits, Stepping, Sums}
+use Rattle.step.specs.Fit.{Fit, noAtom, atomAt, atom-coefficients, atom-constant, atom-kind}
+
+-- ---- one cell
+
+pub dead-step : (κ : Kind) (cell sum : ℤ) → cell ≡ deadCell → stepCell κ cell sum ≡ deadCell
+unfolding stepCell
+dead-step κ cell sum e = rw e
+
+pub live-step : (κ : Kind) (cell sum : ℤ) → cell ≢ deadCell → stepCell κ cell sum ≡ cellOf (halved κ (cell -ℤ sum))
+unfolding stepCell
+live-step κ cell sum f = rw (test-no (eqZ cell deadCell) (λ t. f (eqZ→eq cell deadCell t)))
+  where
+    test-no : (b : Bool) → (T b → ⊥) → b ≡ false
+    test-no true f = absurd (f tt)
+    test-no false f = refl
+
+pub cell-step : {a : Atom} {e : Entry} → AtomFits a → EntryIn a e → (letter : ℕ)
+    → stepCell (a .kind) (cellOf e) (sumAt (a .coefficients) letter) ≡ cellOf (stepEntry a e letter)
+unfolding cellOf stepEntry
+cell-step {a} f (in-dead h) letter = dead-step (a .kind) deadCell (sumAt (a .coefficients) letter) refl
+cell-step {a} f (in-live {k} l h) letter = live-step (a .kind) k (sumAt (a .coefficients) letter) (live-not-dead f (in-live l h))
+
+pub cell-fits : {a : Atom} {e : Entry} → AtomFits a → EntryIn a e → CellFits (cellOf e)
+unfolding cellOf
+cell-fits f (in-dead h) = inl refl
+cell-fits f (in-live l h) = inr (live-size f (in-live l h))
+
+pub cell-worth : (a : Atom) (e : Entry) → worthCell (a .kind) (cellOf e) ≡ worth a e
+unfolding cellOf worth
+cell-worth a (live k) = refl
+cell-worth a dead = low (a .kind)
+  where
+    low : (κ : Kind) → worthCell κ deadCell ≡ false
+    low equation = refl
+    low atMost = refl
+
+-- ---- by index
+
+-- where there is none
+abbrev pub noEntry : Entry
+noEntry = live (pos 0)
+
+cells-at : (es : State) (i : ℕ) → getD (cellsOf es) i (pos 0) ≡ cellOf (getD es i noEntry)
+unfolding cellsOf cellOf
+cells-at es i = List·getD-map cellOf es i noEntry
+
+length-cells : (es : State) → length (cellsOf es) ≡ length es
+unfolding cellsOf
+length-cells es = length-map es cellOf
+
+length-step : (ats : List Atom) (es : State) (letter : ℕ) → length es ≡ length ats → length (stepOf ats es letter) ≡ length ats
+unfolding stepOf
+length-step [] es letter h = refl
+length-step (a ∷ ats) [] letter h = h
+length-step (a ∷ ats) (e ∷ es) letter h = ap suc (length-step ats es letter (omega arith))
+
+step-at : (ats : List Atom) (es : State) (letter i : ℕ) → length es ≡ length ats → i < length ats
+    → getD (stepOf ats es letter) i noEntry ≡ stepEntry (getD ats i noAtom) (getD es i noEntry) letter
+unfolding stepOf
+step-at [] es letter i h l = absurd (omega arith)
+step-at (a ∷ ats) [] letter i h l = absurd (omega arith)
+step-at (a ∷ ats) (e ∷ es) letter zero h l = refl
+step-at (a ∷ ats) (e ∷ es) letter (suc i) h l = step-at ats es letter i (omega arith) (omega arith)
+
+length-worths : (ats : List Atom) (es : State) → length es ≡ length ats → length (worthsOf ats es) ≡ length ats
+unfolding worthsOf
+length-worths [] es h = refl
+length-worths (a ∷ ats) [] h = h
+length-worths (a ∷ ats) (e ∷ es) h = ap suc (length-worths ats es (omega arith))
+
+worth-at : (ats : List Atom) (es : State) (i : ℕ) → length es ≡ length ats → i < length ats
+    → getD (worthsOf ats es) i false ≡ worth (getD ats i noAtom) (getD es i noEntry)
+unfolding worthsOf
+worth-at [] es i h l = absurd (omega arith)
+worth-at (a ∷ ats) [] i h l = absurd (omega arith)
+worth-at (a ∷ ats) (e ∷ es) zero h l = refl
+worth-at (a ∷ ats) (e ∷ es) (suc i) h l = worth-at ats es i (omega arith) (omega arith)
+
+-- ---- a question's tables and a row of its keys
+
+-- what the code works once for a question
+pub record Tables (q : Question) (kinds : List ℕ) (m : ℕ) (sums : List ℤ) : Type 0 where
+  pub fit : Fit q
+  pub kinds-are : kinds ≡ padded 0 (kindCodes (q .codes))
+  pub count : m ≡ atomCount q
+  pub sums-are : Sums (q .n) m (q .coefficients) sums
+
+-- the m cells from cell `at` on are those of a state in range
+pub record Row (q : Question) (m : ℕ) (keys : List ℤ) (at : ℕ) (es : State) : Type 0 where
+  pub room : at + m ≤ length keys
+  pub inside : StateIn (atomsOf q) es
+  pub cells : take m (drop at keys) ≡ cellsOf es
+
+module _ {q : Question} {kinds : List ℕ} {m : ℕ} {sums : List ℤ} (t : Tables q kinds m sums) where
+  module _ (i : ℕ) (h : i < m) where
+    counted : i < atomCount q
+    counted = rw (t .count) at h
+
+    kind-at : kindOf (getD kinds i 0) ≡ atomAt q i .kind
+    kind-at = rw (t .kinds-are, getD-padded) (sym (atom-kind q i counted))
+
+    fits : AtomFits (atomAt q i)
+    unfolding atomCount
+    fits = fits-at (t .fit .numbers) i noAtom counted
+
+    sum-at : (letter : ℕ) → letter < 2 ^ q .n → getD sums (8 * letter + i) (pos 0) ≡ sumAt (atomAt q i .coefficients) letter
+    sum-at letter l = t .sums-are letter i l h ∙ ap (λ (cs : List ℤ). sumAt cs letter) (sym (atom-coefficients q i counted))
+
+  module _ {keys : List ℤ} {at : ℕ} {es : State} (r : Row q m keys at es) where
+    long : length es ≡ length (atomsOf q)
+    long = length-in (r .inside)
+
+    counts : length (atomsOf q) ≡ m
+    unfolding atomCount
+    counts = sym (t .count)
+
+    key-at : (i : ℕ) → i < m → getD keys (at + i) (pos 0) ≡ cellOf (getD es i noEntry)
+    key-at i h = sym (getD-take m (drop at keys) i (pos 0) h ∙ getD-drop at keys i (pos 0)) ∙ ap (λ (l : List ℤ). getD l i (pos 0)) (r .cells) ∙ cells-at es i
+
+    in-at : (i : ℕ) → i < m → EntryIn (atomAt q i) (getD es i noEntry)
+    in-at i h = entry-in (r .inside) i noAtom noEntry (rw counts h)
+
+    pub stepping : (letter : ℕ) → letter < 2 ^ q .n → Stepping m sums letter keys at
+    stepping letter l = record {
+      atoms = rw (t .count) (t .fit .atoms .1);
+      letters = omega (arith, pow-mono (t .fit .variables .1));
+      room = r .room;
+      cells = λ i h. rw (key-at i h) (cell-fits (fits i h) (in-at i h));
+      sums-fit = λ i h. rw (sum-at i h letter l) (sum-size (fits i h) letter);
+    }
+
+    stepped : (letter : ℕ) → letter < 2 ^ q .n → stepCells kinds m sums letter keys at ≡ cellsOf (stepOf (atomsOf q) es letter)
+    unfolding stepCells
+    stepped letter l =
+        let next = stepOf (atomsOf q) es letter in
+        listed-is (pos 0) (stepAt kinds sums letter keys at) m (cellsOf next)
+        (length-cells next ∙ length-step (atomsOf q) es letter long ∙ counts)
+        (λ i h.
+        rw (kind-at i h, key-at i h, sum-at i h letter l)
+        (cell-step (fits i h) (in-at i h) letter ∙ sym (cells-at next i ∙ ap cellOf (step-at (atomsOf q) es letter i long (rw counts h)))))
+
+    -- what step_row gives
+    pub target : (letter : ℕ) → letter < 2 ^ q .n → (row : List ℤ) → row ≡ padded (pos 0) (stepCells kinds m sums letter keys at)
+        → (take m row ≡ cellsOf (stepOf (atomsOf q) es letter)) × (length row ≡ 8)
+    unfolding stepCells
+    target letter l row e =
+        let n : length (stepCells kinds m sums letter keys at) ≡ m = length-listed (stepAt kinds sums letter keys at) m in
+        let few : length (stepCells kinds m sums letter keys at) ≤ 8 = rw (n, t .count) (t .fit .atoms .1) in
+        rw e (take-padded (pos 0) (stepCells kinds m sums letter keys at) m n ∙ stepped letter l, length-padded (pos 0) (stepCells kinds m sums letter keys at) few)
+
+    worths : worthCells kinds m keys at ≡ worthsOf (atomsOf q) es
+    unfolding worthCells
+    worths =
+        listed-is false (worthAt kinds keys at) m (worthsOf (atomsOf q) es)
+        (length-worths (atomsOf q) es long ∙ counts)
+        (λ i h. rw (kind-at i h, key-at i h) (cell-worth (atomAt q i) (getD es i noEntry) ∙ sym (worth-at (atomsOf q) es i long (rw counts h))))
+
+    -- what worths_at gives reads as the atoms' worths
+    pub worth-row : (ws : List Bool) → ws ≡ padded false (worthCells kinds m keys at)
+        → ((i : ℕ) → getD ws i false ≡ getD (worthsOf (atomsOf q) es) i false) × (length ws ≡ 8)
+    unfolding worthCells
+    worth-row ws e =
+        let n : length (worthCells kinds m keys at) ≡ m = length-listed (worthAt kinds keys at) m in
+        let few : length (worthCells kinds m keys at) ≤ 8 = rw (n, t .count) (t .fit .atoms .1) in
+        rw e (λ i. getD-padded false (worthCells kinds m keys at) i ∙ ap (λ (l : List Bool). getD l i false) worths, length-padded false (worthCells kinds m keys at) few)
+
+-- ---- the start
+
+pub start-cells : {q : Question} → Fit q → take (atomCount q) (q .constants) ≡ cellsOf (startOf (atomsOf q))
+unfolding cellsOf startOf cellOf startEntry atomCount
+start-cells {q} f =
+    let ats = atomsOf q in
+    let cs = q .constants in
+    let whole : length (take (atomCount q) cs) ≡ atomCount q = simp length-take (omega (arith, f .atoms, f .constants)) in
+    let n : length (cellsOf (startOf ats)) ≡ length ats = length-map (startOf ats) cellOf ∙ length-map ats startEntry in
+    ext-getD (pos 0) (take (atomCount q) cs) (cellsOf (startOf ats)) (whole ∙ sym n)
+    (λ i h.
+    let b : i < atomCount q = rw whole at h in
+    getD-take (atomCount q) cs i (pos 0) b
+    ∙ sym (atom-constant q i b)
+    ∙ sym (List·getD-map cellOf (startOf ats) i noEntry ∙ ap cellOf (List·getD-map startEntry ats i noAtom)))
