@@ -17,10 +17,11 @@ use Rattle.scope.specs.Question.{Kind, equation, atMost, Atom, atomsOf, atomCou
 use Rattle.scope.specs.States.{Entry, dead, live, State, deadCell, cellOf, cellsOf, sumAt, startEntry, startOf, halved, stepEntry, stepOf, worth, worthsOf}
 use Rattle.theory.specs.Integers.{eqZ→eq}
 use Rattle.theory.specs.Range.{EntryIn, in-dead, in-live, StateIn, length-in, entry-in}
+use Rattle.theory.specs.Accepted.{WithinLimits}
 use Rattle.theory.specs.Cells.{AtomFits, fits-at, sum-size, live-size, live-not-dead}
 use Rattle.step.specs.Eight.{length-listed, listed-is, padded, length-padded, take-padded, getD-padded}
 use Rattle.step.specs.Cells.{kindOf, kindCodes, stepCell, worthCell, stepAt, stepCells, worthAt, worthCells, CellFits, Stepping, Sums}
-use Rattle.step.specs.Fit.{Fit, noAtom, atomAt, atom-coefficients, atom-constant, atom-kind}
+use Rattle.step.specs.Atoms.{noAtom, atomAt, atom-coefficients, atom-constant, atom-kind, few-atoms, limits-fit}
 
 -- ---- one cell
 
@@ -102,13 +103,13 @@ worth-at (a ∷ ats) (e ∷ es) (suc i) h l = worth-at ats es i (omega arith) (o
 
 -- what the code works once for a question
 pub record Tables (q : Question) (kinds : List ℕ) (m : ℕ) (sums : List ℤ) : Type 0 where
-  pub fit : Fit q
+  pub limits : WithinLimits q
   pub kinds-are : kinds ≡ padded 0 (kindCodes (q .codes))
   pub count : m ≡ atomCount q
   pub sums-are : Sums (q .n) m (q .coefficients) sums
 
 -- the m cells from cell `at` on are those of a state in range
-pub record Row (q : Question) (m : ℕ) (keys : List ℤ) (at : ℕ) (es : State) : Type 0 where
+pub record KeyRow (q : Question) (m : ℕ) (keys : List ℤ) (at : ℕ) (es : State) : Type 0 where
   pub room : at + m ≤ length keys
   pub inside : StateIn (atomsOf q) es
   pub cells : take m (drop at keys) ≡ cellsOf es
@@ -123,12 +124,12 @@ module _ {q : Question} {kinds : List ℕ} {m : ℕ} {sums : List ℤ} (t : Tabl
 
     fits : AtomFits (atomAt q i)
     unfolding atomCount
-    fits = fits-at (t .fit .numbers) i noAtom counted
+    fits = fits-at (limits-fit (t .limits)) i noAtom counted
 
     sum-at : (letter : ℕ) → letter < 2 ^ q .n → getD sums (8 * letter + i) (pos 0) ≡ sumAt (atomAt q i .coefficients) letter
     sum-at letter l = t .sums-are letter i l h ∙ ap (λ (cs : List ℤ). sumAt cs letter) (sym (atom-coefficients q i counted))
 
-  module _ {keys : List ℤ} {at : ℕ} {es : State} (r : Row q m keys at es) where
+  module _ {keys : List ℤ} {at : ℕ} {es : State} (r : KeyRow q m keys at es) where
     long : length es ≡ length (atomsOf q)
     long = length-in (r .inside)
 
@@ -144,8 +145,8 @@ module _ {q : Question} {kinds : List ℕ} {m : ℕ} {sums : List ℤ} (t : Tabl
 
     pub stepping : (letter : ℕ) → letter < 2 ^ q .n → Stepping m sums letter keys at
     stepping letter l = record {
-      atoms = rw (t .count) (t .fit .atoms .1);
-      letters = omega (arith, pow-mono (t .fit .variables .1));
+      atoms = rw (t .count) (few-atoms (t .limits));
+      letters = omega (arith, pow-mono (t .limits .variables));
       room = r .room;
       cells = λ i h. rw (key-at i h) (cell-fits (fits i h) (in-at i h));
       sums-fit = λ i h. rw (sum-at i h letter l) (sum-size (fits i h) letter);
@@ -162,12 +163,12 @@ module _ {q : Question} {kinds : List ℕ} {m : ℕ} {sums : List ℤ} (t : Tabl
         (cell-step (fits i h) (in-at i h) letter ∙ sym (cells-at next i ∙ ap cellOf (step-at (atomsOf q) es letter i long (rw counts h)))))
 
     -- what step_row gives
-    pub target : (letter : ℕ) → letter < 2 ^ q .n → (row : List ℤ) → row ≡ padded (pos 0) (stepCells kinds m sums letter keys at)
+    pub row-target : (letter : ℕ) → letter < 2 ^ q .n → (row : List ℤ) → row ≡ padded (pos 0) (stepCells kinds m sums letter keys at)
         → (take m row ≡ cellsOf (stepOf (atomsOf q) es letter)) × (length row ≡ 8)
     unfolding stepCells
-    target letter l row e =
+    row-target letter l row e =
         let n : length (stepCells kinds m sums letter keys at) ≡ m = length-listed (stepAt kinds sums letter keys at) m in
-        let few : length (stepCells kinds m sums letter keys at) ≤ 8 = rw (n, t .count) (t .fit .atoms .1) in
+        let few : length (stepCells kinds m sums letter keys at) ≤ 8 = rw (n, t .count) (few-atoms (t .limits)) in
         rw e (take-padded (pos 0) (stepCells kinds m sums letter keys at) m n ∙ stepped letter l, length-padded (pos 0) (stepCells kinds m sums letter keys at) few)
 
     worths : worthCells kinds m keys at ≡ worthsOf (atomsOf q) es
@@ -178,22 +179,22 @@ module _ {q : Question} {kinds : List ℕ} {m : ℕ} {sums : List ℤ} (t : Tabl
         (λ i h. rw (kind-at i h, key-at i h) (cell-worth (atomAt q i) (getD es i noEntry) ∙ sym (worth-at (atomsOf q) es i long (rw counts h))))
 
     -- what worths_at gives reads as the atoms' worths
-    pub worth-row : (ws : List Bool) → ws ≡ padded false (worthCells kinds m keys at)
+    pub row-worths : (ws : List Bool) → ws ≡ padded false (worthCells kinds m keys at)
         → ((i : ℕ) → getD ws i false ≡ getD (worthsOf (atomsOf q) es) i false) × (length ws ≡ 8)
     unfolding worthCells
-    worth-row ws e =
+    row-worths ws e =
         let n : length (worthCells kinds m keys at) ≡ m = length-listed (worthAt kinds keys at) m in
-        let few : length (worthCells kinds m keys at) ≤ 8 = rw (n, t .count) (t .fit .atoms .1) in
+        let few : length (worthCells kinds m keys at) ≤ 8 = rw (n, t .count) (few-atoms (t .limits)) in
         rw e (λ i. getD-padded false (worthCells kinds m keys at) i ∙ ap (λ (l : List Bool). getD l i false) worths, length-padded false (worthCells kinds m keys at) few)
 
 -- ---- the start
 
-pub start-cells : {q : Question} → Fit q → take (atomCount q) (q .constants) ≡ cellsOf (startOf (atomsOf q))
+pub start-cells : {q : Question} → WithinLimits q → take (atomCount q) (q .constants) ≡ cellsOf (startOf (atomsOf q))
 unfolding cellsOf startOf cellOf startEntry atomCount
-start-cells {q} f =
+start-cells {q} w =
     let ats = atomsOf q in
     let cs = q .constants in
-    let whole : length (take (atomCount q) cs) ≡ atomCount q = simp length-take (omega (arith, f .atoms, f .constants)) in
+    let whole : length (take (atomCount q) cs) ≡ atomCount q = simp length-take (omega (arith, few-atoms w, w .sized .constants)) in
     let n : length (cellsOf (startOf ats)) ≡ length ats = length-map (startOf ats) cellOf ∙ length-map ats startEntry in
     ext-getD (pos 0) (take (atomCount q) cs) (cellsOf (startOf ats)) (whole ∙ sym n)
     (λ i h.

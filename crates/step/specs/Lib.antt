@@ -1,5 +1,5 @@
 -- What a letter does to a key row, and what the row's atoms are worth.
 pub mod Eight
 pub mod Cells
-pub mod Fit
+pub mod Atoms
 pub mod Laws

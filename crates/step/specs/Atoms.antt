@@ -1,5 +1,5 @@
--- What is known of an accepted question, and that it meets what the code asks of the question's arrays.
-use mathlib.Core.Path.{_≡_, refl, sym, ap, _∙_}
+-- The atoms of a question by index, and that a question within its limits meets what the code asks of its arrays.
+use mathlib.Core.Path.{_≡_, refl, sym, _∙_}
 use mathlib.Core.List.{List, [], _∷_, map}
 use Prim.Native.Nat.{ℕ, zero, suc, _+_, _*_, _≤_, _<_}
 use native.Mathlib.Omega.{arith}
@@ -7,17 +7,10 @@ use lib.ListN.{length, getD, take, drop, length-map}
 use lib.IntN.{pos}
 use Rattle.scope.specs.declared.Question.{Question}
 use Rattle.scope.specs.Question.{Kind, equation, atMost, Atom, nodesOf, kindsOf, coefficientsOf, constantOf, atomsFrom, atomsOf, atomCount}
-use Rattle.theory.specs.Sums.{Small}
-use Rattle.theory.specs.Cells.{AtomsFit, fits-at}
+use Rattle.theory.specs.Cells.{AtomsFit, fits-at, atoms-fit}
+use Rattle.theory.specs.Accepted.{WithinLimits}
+use Rattle.theory.specs.Answers.{atom-count}
 use Rattle.step.specs.Cells.{kindCode, kindOf, kindCodes, Coefficients}
-
-pub record Fit (q : Question) : Type 0 where
-  pub variables : (1 ≤ q .n) × (q .n ≤ 6)
-  pub atoms : (1 ≤ atomCount q) × (atomCount q ≤ 8)
-  pub codes : length (q .codes) ≡ 64
-  pub coefficients : length (q .coefficients) ≡ 48
-  pub constants : length (q .constants) ≡ 8
-  pub numbers : AtomsFit (atomsOf q)
 
 -- ---- atom i of a question, by its parts
 
@@ -27,11 +20,6 @@ noAtom = record { kind = atMost; coefficients = []; constant = pos 0 }
 
 abbrev pub atomAt : Question → ℕ → Atom
 atomAt q i = getD (atomsOf q) i noAtom
-
-length-from : (q : Question) (i : ℕ) (κs : List Kind) → length (atomsFrom q i κs) ≡ length κs
-unfolding atomsFrom
-length-from q i [] = refl
-length-from q i (κ ∷ κs) = ap suc (length-from q (suc i) κs)
 
 from-coefficients : (q : Question) (i j : ℕ) (κs : List Kind) → j < length κs → getD (atomsFrom q i κs) j noAtom .coefficients ≡ coefficientsOf q (i + j)
 unfolding atomsFrom
@@ -54,13 +42,12 @@ from-kind q i (suc j) (κ ∷ κs) h = from-kind q (suc i) j κs (omega arith)
 
 module _ (q : Question) where
   pub kinds-count : length (kindCodes (q .codes)) ≡ atomCount q
-  unfolding kindCodes atomCount atomsOf nodesOf
-  kinds-count = length-map (kindsOf (nodesOf q)) kindCode ∙ sym (length-from q 0 (kindsOf (nodesOf q)))
+  unfolding kindCodes nodesOf
+  kinds-count = length-map (kindsOf (nodesOf q)) kindCode ∙ sym (atom-count q)
 
   module _ (i : ℕ) (h : i < atomCount q) where
     within : i < length (kindsOf (nodesOf q))
-    unfolding atomCount atomsOf
-    within = rw (length-from q 0 (kindsOf (nodesOf q))) at h
+    within = rw (atom-count q) at h
 
     pub atom-coefficients : atomAt q i .coefficients ≡ take (q .n) (drop (6 * i) (q .coefficients))
     unfolding atomsOf coefficientsOf
@@ -76,17 +63,21 @@ module _ (q : Question) where
 
 -- ---- what the code asks
 
-pub few-kinds : {q : Question} → Fit q → length (kindCodes (q .codes)) ≤ 8
-few-kinds {q} f = rw (kinds-count q) (f .atoms .1)
+module _ {q : Question} (w : WithinLimits q) where
+  pub few-atoms : atomCount q ≤ 8
+  few-atoms = rw (atom-count q) (w .atoms)
 
-pub coefficients-fit : {q : Question} → Fit q → Coefficients (q .n) (atomCount q) (q .coefficients)
-unfolding atomCount
-coefficients-fit {q} f = record {
-  variables = f .variables .1;
-  atoms = f .atoms .1;
-  whole = f .coefficients;
-  small = small;
-}
-  where
-    small : (i : ℕ) → i < atomCount q → Small 4096 (take (q .n) (drop (6 * i) (q .coefficients)))
-    small i h = rw (atom-coefficients q i h) at (fits-at (f .numbers) i noAtom h .small)
+  pub few-kinds : length (kindCodes (q .codes)) ≤ 8
+  few-kinds = rw (kinds-count q) few-atoms
+
+  pub limits-fit : AtomsFit (atomsOf q)
+  limits-fit = atoms-fit q (w .variables) (λ i h. w .numbers i (rw (atom-count q) at h))
+
+  pub coefficients-fit : Coefficients (q .n) (atomCount q) (q .coefficients)
+  unfolding atomCount
+  coefficients-fit = record {
+    variables = w .variables;
+    atoms = few-atoms;
+    whole = w .sized .coefficients;
+    small = λ i h. rw (atom-coefficients q i h) at (fits-at limits-fit i noAtom h .small);
+  }
