@@ -34,14 +34,18 @@ bucketAt keys m n s = bucketOf n (rowAt keys m s)
 abbrev pub Newest : List ℤ → ℕ → ℕ → ℕ → ℕ → ℕ → Type 0
 Newest keys m n b count v = Latest (λ s. bucketAt keys m n s ≡ b) (λ s. bucketAt keys m n s ≡ b) count v
 
--- each bucket's head is its newest row, and a row's next the newest before it of its bucket
-pub record Indexed (keys : List ℤ) (m : ℕ) (head next : List ℕ) (count : ℕ) : Type 0 where
+-- there are buckets, the first count rows, and a link for each of them
+pub record Sized (keys : List ℤ) (m : ℕ) (head next : List ℕ) (count : ℕ) : Type 0 where
   pub width : m ≤ 8
   pub some-buckets : 0 < length head
   pub few-buckets : length head ≤ 65536
   pub few-rows : count ≤ 65535
   pub cells : count * m ≤ length keys
   pub links : count ≤ length next
+
+-- each bucket's head is its newest row, and a row's next the newest before it of its bucket
+pub record Indexed (keys : List ℤ) (m : ℕ) (head next : List ℕ) (count : ℕ) : Type 0 where
+  pub sized : Sized keys m head next count
   pub at-head : (b : ℕ) → b < length head → Newest keys m (length head) b count (getD head b 0)
   pub at-next : (r : ℕ) → r < count → Newest keys m (length head) (bucketAt keys m (length head) r) r (getD next r 0)
 
@@ -56,12 +60,6 @@ pub record Room (keys : List ℤ) (m : ℕ) (next : List ℕ) (count : ℕ) : Ty
   pub number : count < 65535
   pub link : count < length next
   pub cells : count * m + m ≤ length keys
-
--- count rows are there, with a link for each
-pub record RowsFit (keys : List ℤ) (m : ℕ) (next : List ℕ) (count : ℕ) : Type 0 where
-  pub numbers : count ≤ 65535
-  pub links : count ≤ length next
-  pub cells : count * m ≤ length keys
 
 -- row count is the key, and is indexed with the rows before it
 pub record Added (old : List ℤ) (m : ℕ) (key keys : List ℤ) (head next : List ℕ) (count : ℕ) : Type 0 where

@@ -60,12 +60,14 @@ module _ {P Q : ℕ → Type 0} where
 
 pub none-indexed : (keys : List ℤ) (m n : ℕ) (next : List ℕ) → m ≤ 8 → 0 < n → n ≤ 65536 → Indexed keys m (replicate n 65535) next 0
 none-indexed keys m n next width some few = record {
-  width = width;
-  some-buckets = rw length-replicate some;
-  few-buckets = rw length-replicate few;
-  few-rows = omega arith;
-  cells = rw zero-mul (omega arith);
-  links = omega arith;
+  sized = record {
+    width = width;
+    some-buckets = rw length-replicate some;
+    few-buckets = rw length-replicate few;
+    few-rows = omega arith;
+    cells = rw zero-mul (omega arith);
+    links = omega arith;
+  };
   at-head = λ b h.
       rw (getD-replicate {A = ℕ} n b 65535 0 (rw length-replicate at h))
       (record { link = omega arith; low = omega arith; has = λ ne. absurd (ne refl); none = λ s a l q. omega arith });
@@ -77,12 +79,14 @@ none-indexed keys m n next width some few = record {
 pub front-indexed : {new old : List ℤ} {m count : ℕ} {head next : List ℕ} → take (count * m) new ≡ take (count * m) old
     → Indexed old m head next count → Indexed new m head next count
 front-indexed {new} {old} {m} {count} {head} {next} e ix = record {
-  width = ix .width;
-  some-buckets = ix .some-buckets;
-  few-buckets = ix .few-buckets;
-  few-rows = ix .few-rows;
-  cells = omega (arith, simp length-take at (ap length e));
-  links = ix .links;
+  sized = record {
+    width = ix .sized .width;
+    some-buckets = ix .sized .some-buckets;
+    few-buckets = ix .sized .few-buckets;
+    few-rows = ix .sized .few-rows;
+    cells = omega (arith, simp length-take at (ap length e));
+    links = ix .sized .links;
+  };
   at-head = λ b h. latest-map (λ s l q. same s l ∙ q) (λ s l q. sym (same s l) ∙ q) (ix .at-head b h);
   at-next = λ r h.
       rw (same r h)
@@ -106,12 +110,14 @@ pub more-indexed : {keys : List ℤ} {m : ℕ} {head next : List ℕ} {count : �
     → count < 65535 → count < length next → count * m + m ≤ length keys → b < length head → bucketAt keys m (length head) count ≡ b
     → Indexed keys m (set head b count) (set next count (getD head b 0)) (count + 1)
 more-indexed {keys} {m} {head} {next} {count} b ix few c-in room b-in e = record {
-  width = ix .width;
-  some-buckets = rw length-set (ix .some-buckets);
-  few-buckets = rw length-set (ix .few-buckets);
-  few-rows = omega arith;
-  cells = rw (add-one, suc-mul) room;
-  links = rw length-set (omega arith);
+  sized = record {
+    width = ix .sized .width;
+    some-buckets = rw length-set (ix .sized .some-buckets);
+    few-buckets = rw length-set (ix .sized .few-buckets);
+    few-rows = omega arith;
+    cells = rw (add-one, suc-mul) room;
+    links = rw length-set (omega arith);
+  };
   at-head = λ b′ h. rw length-set (heads b′ (rw length-set at h));
   at-next = λ r h. rw length-set (nexts r h);
 }

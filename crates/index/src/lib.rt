@@ -7,7 +7,7 @@ ghost use lib.ListN.{length, getD, set, take, replicate};
 ghost use lib.Seq.{paste};
 ghost use Rattle.index.specs.Rows.{rowAt};
 ghost use Rattle.index.specs.Hash.{codeOf, mixed, bucketOf};
-ghost use Rattle.index.specs.Index.{Says, Indexed, Finds, Room, RowsFit, Added};
+ghost use Rattle.index.specs.Index.{Says, Indexed, Finds, Room, Sized, Added};
 
 // No row: the link of a bucket that has none, and of a bucket's oldest row.
 const NONE: u16 = 65_535;
@@ -170,12 +170,12 @@ pub fn clear(head: &mut [u16])
     }
 }
 
-// Indexes the first count rows in a head and a next that index none.
+// Indexes the first count rows anew, whatever the links were: none to begin with, or those there are in more buckets.
 pub fn rebuild(keys: &[i32], m: usize, head: &mut [u16], next: &mut [u16], count: usize)
-    requires { ⌜ Indexed (now keys) m (now head) (now next) 0 ⌝ }
-    requires { ⌜ RowsFit (now keys) m (now next) count ⌝ }
+    requires { ⌜ Sized (now keys) m (now head) (now next) count ⌝ }
     ensures { λ _. ⌜ Indexed (now (keys .entry)) m (now (head .exit)) (now (next .exit)) count ⌝ }
 {
+    clear(head);
     let mut row = 0;
     while row < count {
         let key = load_row(keys, m, row);
