@@ -13,12 +13,12 @@ folded p = p % 4294967296 + p / 4294967296
 
 -- the hash h of some cells, with one cell more
 unfoldable pub mixed : ℕ → ℤ → ℕ
-mixed h z = folded ((h + codeOf z) * 1013904223)
+mixed h z = (h * 1812433253 + folded (codeOf z * 1013904223)) % 4294967296
 
 unfoldable pub hashFrom : ℕ → List ℤ → ℕ
 hashFrom h [] = h
 hashFrom h (z ∷ cells) = hashFrom (mixed h z) cells
 
--- the highest bits of the hash's low half
+-- the hash is below 2 ^ 32, and its highest bits count
 unfoldable pub bucketOf : ℕ → List ℤ → ℕ
-bucketOf n cells = hashFrom 0 cells % 4294967296 * n / 4294967296
+bucketOf n cells = hashFrom 0 cells * n / 4294967296

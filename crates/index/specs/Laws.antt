@@ -2,7 +2,7 @@
 use mathlib.Core.Path.{_≡_, refl, sym, ap, _∙_, subst}
 use mathlib.Core.Logic.{by-cases}
 use mathlib.Core.List.{List}
-use Prim.Native.Nat.{ℕ, zero, suc, _+_, _*_, _%_, _≤_, _<_}
+use Prim.Native.Nat.{ℕ, _+_, _*_, _≤_, _<_}
 use native.Mathlib.Nat.{suc-mul, zero-mul}
 use native.Mathlib.Numerals.{add-one}
 use native.Mathlib.Decide.{ℕ-discrete, decLt}
@@ -12,7 +12,7 @@ use lib.Seq.{getD-set-same, getD-set-other, paste}
 use lib.IntN.{ℤ}
 use Rattle.index.specs.Rows.{rowAt, front-row, stored-front, stored-row}
 use Rattle.index.specs.Hash.{bucketOf}
-use Rattle.index.specs.Index.{after, Latest, bucketAt, Newest, Indexed}
+use Rattle.index.specs.Index.{Latest, bucketAt, Newest, Indexed}
 
 -- ---- links
 

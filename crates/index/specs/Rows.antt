@@ -1,7 +1,7 @@
 -- Rows of m cells each in an area: row s has the m cells from s * m on. Laws on a row's cells, on areas with the same front, on an area
 -- into which a row was stored (`paste` of lib.Seq), and on one that is filled row by row from its front.
 use mathlib.Core.Path.{_≡_, refl, sym, ap, _∙_}
-use mathlib.Core.List.{List, [], _∷_, _++_, append-assoc, append-nil}
+use mathlib.Core.List.{List, [], _∷_, _++_, append-assoc}
 use Prim.Native.Nat.{ℕ, zero, suc, _+_, _*_, _≤_, _<_}
 use native.Mathlib.Nat.{zero-add, suc-add, add-comm, suc-mul, zero-mul, mul-le-mul-right}
 use native.Mathlib.Omega.{arith}

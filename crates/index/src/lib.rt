@@ -19,13 +19,14 @@ fn code(x: i32) -> usize
     (x as i64 + 2_147_483_648) as usize
 }
 
-// The hash of some cells, with one cell more. The factor is 2 ^ 32 times the fraction of the root of 5.
+// The hash of some cells, with one cell more. A cell's product is folded, so that a dead cell changes more than the highest bit; the
+// products of all cells can be under way at once. Chains are as short as by chance or shorter for rows of small numbers and dead cells.
 fn mix(h: usize, x: i32) -> usize
-    requires { ⌜ h < 8589934592 ⌝ }
-    ensures { λ r. ⌜ (r ≡ mixed h x) × (r < 8589934592) ⌝ }
+    requires { ⌜ h < 4294967296 ⌝ }
+    ensures { λ r. ⌜ (r ≡ mixed h x) × (r < 4294967296) ⌝ }
 {
-    let p = (h + code(x)) * 1_013_904_223;
-    p % 4_294_967_296 + p / 4_294_967_296
+    let p = code(x) * 1_013_904_223;
+    (h * 1_812_433_253 + (p % 4_294_967_296 + p / 4_294_967_296)) % 4_294_967_296
 }
 
 // The bucket, of n, of a key's first m cells.
@@ -40,7 +41,7 @@ fn bucket(key: &[i32; 8], m: usize, n: usize) -> usize
         h = mix(h, x);
         i += 1;
     }
-    h % 4_294_967_296 * n / 4_294_967_296
+    h * n / 4_294_967_296
 }
 
 // Whether the row has the key's first m cells.

@@ -1,5 +1,4 @@
 -- `index::add` meets its contract: the store changes no row before count, and gives row count the key's cells.
-use Prim.Native.Nat.{ℕ}
 use native.Mathlib.Omega.{arith}
 use borrow.Author.Needs.{needs}
 use Rattle.index.specs.Laws.{stored-indexed, stored-key}

@@ -1,6 +1,6 @@
 -- `index::bucket` meets its contract. The invariant: h, with the cells from i on, gives the hash of all. The measure is m less i.
 use mathlib.Core.Path.{_≡_, refl, sym, ap, _∙_}
-use Prim.Native.Nat.{ℕ, _+_, _*_, _-_, _/_, _%_, _≤_, _<_}
+use Prim.Native.Nat.{ℕ, _*_, _-_, _/_, _≤_, _<_}
 use native.Mathlib.Omega.{arith}
 use borrow.Author.Needs.{needs}
 use lib.ListN.{getD, take, drop}
@@ -12,7 +12,7 @@ use Rattle.index.proofs.bucket.Statement.{statement}
 use Rattle.index.proofs.bucket.Tie as tie
 
 abbrev Inv-loop : tie.InvT-loop
-Inv-loop key m n h₀ i₀ h i = (i ≤ m) × (h < 8589934592) × (hashFrom h (drop i (take m key)) ≡ hashFrom 0 (take m key))
+Inv-loop key m n h₀ i₀ h i = (i ≤ m) × (h < 4294967296) × (hashFrom h (drop i (take m key)) ≡ hashFrom 0 (take m key))
 
 abbrev μ-loop : tie.MeasureT-loop
 μ-loop key m n h₀ i₀ h i = m - i
@@ -34,7 +34,7 @@ loop-again c =
     )
 
 mul-result : tie.Need-mul-result Inv-loop μ-loop
-mul-result c = record { fits = omega (arith, scaled (c .before .loop .h % 4294967296) (c .before .before .args .n) (omega arith) (omega arith)) }
+mul-result c = record { fits = omega (arith, scaled (c .before .loop .h) (c .before .before .args .n) (omega arith) (omega arith)) }
 
 returns : tie.Need-returns Inv-loop μ-loop
 unfolding bucketOf
@@ -43,8 +43,8 @@ returns c =
     let h = c .before .loop .h in
     let all : h ≡ hashFrom 0 (take (args .m) (args .key .now)) =
     sym (hash-done (args .key .now) (args .m) h (c .before .loop .i) (c .loop-test .left)) ∙ c .before .loop .inv .2 in (
-      ap (λ (k : ℕ). k % 4294967296 * args .n / 4294967296) all,
-      omega (arith, scaled (h % 4294967296) (args .n) (omega arith) (omega arith)),
+      ap (λ (k : ℕ). k * args .n / 4294967296) all,
+      omega (arith, scaled h (args .n) (omega arith) (omega arith)),
     )
 
 pub bucket-spec : {M : Type 1} → statement M

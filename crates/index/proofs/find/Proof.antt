@@ -1,7 +1,7 @@
 -- `index::find` meets its contract. The invariant: the link is to a row of the key's bucket, and no row after it has the key's cells.
 -- The measure is the number after the link's row.
-use mathlib.Core.Path.{_≡_, refl, sym, ap, _∙_}
-use Prim.Native.Nat.{ℕ, _+_, _*_, _%_, _≤_, _<_}
+use mathlib.Core.Path.{_≡_, sym, ap, _∙_}
+use Prim.Native.Nat.{_<_}
 use native.Mathlib.Omega.{arith}
 use borrow.Author.Needs.{needs}
 use lib.ListN.{length, take}

@@ -1,9 +1,6 @@
 -- `index::insert` meets its contract: the two stores of `link` are those of `more-indexed`.
-use mathlib.Core.Path.{_≡_, sym, ap, _∙_}
-use Prim.Native.Nat.{ℕ, _≤_, _<_}
-use native.Mathlib.Omega.{arith}
+use mathlib.Core.Path.{sym, ap, _∙_}
 use borrow.Author.Needs.{needs}
-use lib.ListN.{length, take, length-take}
 use Rattle.index.specs.Rows.{row-key}
 use Rattle.index.specs.Hash.{bucketOf}
 use Rattle.index.specs.Laws.{more-indexed}

@@ -1,7 +1,7 @@
 -- `index::rebuild` meets its contract. The invariant: the rows before `row` are indexed. The measure is count less `row`.
 use mathlib.Core.Path.{_≡_, refl, _∙_}
 use mathlib.Core.List.{List}
-use Prim.Native.Nat.{ℕ, _+_, _*_, _-_, _≤_, _<_}
+use Prim.Native.Nat.{ℕ, _-_, _≤_}
 use native.Mathlib.Nat.{le-antisymm}
 use native.Mathlib.Omega.{arith}
 use borrow.Author.Needs.{needs}

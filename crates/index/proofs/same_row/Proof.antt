@@ -2,7 +2,7 @@
 use mathlib.Core.Path.{_≡_, ap}
 use mir.Syntax.{w32}
 use mir.Val.{ofZ}
-use Prim.Native.Nat.{ℕ, _+_, _*_, _-_, _≤_, _<_}
+use Prim.Native.Nat.{ℕ, _+_, _-_, _≤_, _<_}
 use native.Mathlib.Omega.{arith}
 use borrow.Author.Needs.{needs}
 use borrow.Author.Count.{below-none, below-more}
