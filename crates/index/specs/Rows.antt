@@ -1,7 +1,7 @@
 -- Rows of m cells each in an area: row s has the m cells from s * m on. Laws on a row's cells, on areas with the same front, on an area
 -- into which a row was stored (`paste` of lib.Seq), and on one that is filled row by row from its front.
 use mathlib.Core.Path.{_≡_, refl, sym, ap, _∙_}
-use mathlib.Core.List.{List, [], _∷_, _++_, append-assoc}
+use mathlib.Core.List.{List, [], _∷_, _++_, append-assoc, map}
 use Prim.Native.Nat.{ℕ, zero, suc, _+_, _*_, _≤_, _<_}
 use native.Mathlib.Nat.{zero-add, suc-add, add-comm, suc-mul, zero-mul, mul-le-mul-right}
 use native.Mathlib.Omega.{arith}
@@ -71,31 +71,31 @@ module _ {A : Type 0} where
 
   -- ---- an area that is filled row by row from its front
 
-  abbrev pub Wide : ℕ → List (List A) → Type 0
-  Wide m rows = (i : ℕ) → i < length rows → length (getD rows i []) ≡ m
-
   pub joined-append : (rows more : List (List A)) → joined (rows ++ more) ≡ joined rows ++ joined more
   unfolding joined
   joined-append [] more = refl
   joined-append (l ∷ rows) more = rw (joined-append rows more, append-assoc)
-
-  pub joined-length : (m : ℕ) (rows : List (List A)) → Wide m rows → length (joined rows) ≡ length rows * m
-  unfolding joined
-  joined-length m [] wide = rw zero-mul
-  joined-length m (l ∷ rows) wide =
-      rw (length-append, suc-mul) (omega (arith, wide 0 (omega arith), joined-length m rows (λ i h. wide (suc i) (omega arith))))
-
-  pub joined-row : (m : ℕ) (rows : List (List A)) (rest : List A) (s : ℕ) → Wide m rows → s < length rows
-      → rowAt (joined rows ++ rest) m s ≡ getD rows s []
-  unfolding joined
-  joined-row m [] rest s wide h = absurd (omega arith)
-  joined-row m (l ∷ rows) rest zero wide h = rw (zero-mul, append-assoc) (take-at l (joined rows ++ rest) m (wide 0 (omega arith)))
-  joined-row m (l ∷ rows) rest (suc s) wide h =
-      rw (suc-mul, add-comm (s * m) m, append-assoc, ← drop-drop (s * m) m (l ++ (joined rows ++ rest)), drop-at l (joined rows ++ rest) m (wide 0 (omega arith)))
-      (joined-row m rows rest s (λ i k. wide (suc i) (omega arith)) (omega arith))
 
   pub stored-at-front : (cells area key : List A) (m : ℕ) → m ≤ length key → length cells + m ≤ length area
       → paste (atFront cells area) (length cells) key m ≡ atFront (cells ++ take m key) area
   unfolding atFront
   stored-at-front cells area key m long room =
       rw (take-append-seam, drop-append-add, drop-drop, length-append, length-take-le m key long)
+
+  -- row s has the cells of the s-th element of l
+  module _ {B : Type 0} (cellsOf : B → List A) (m : ℕ) (b : B) where
+    joined-row : (l : List B) (rest : List A) (s : ℕ) → ((i : ℕ) → i < length l → length (cellsOf (getD l i b)) ≡ m) → s < length l
+        → rowAt (joined (map cellsOf l) ++ rest) m s ≡ cellsOf (getD l s b)
+    unfolding joined
+    joined-row [] rest s wide h = absurd (omega arith)
+    joined-row (x ∷ l) rest zero wide h =
+        rw (zero-mul, append-assoc) (take-at (cellsOf x) (joined (map cellsOf l) ++ rest) m (wide 0 (omega arith)))
+    joined-row (x ∷ l) rest (suc s) wide h =
+        let later : List A = joined (map cellsOf l) ++ rest in
+        rw (suc-mul, add-comm (s * m) m, append-assoc, ← drop-drop (s * m) m (cellsOf x ++ later), drop-at (cellsOf x) later m (wide 0 (omega arith)))
+        (joined-row l rest s (λ i k. wide (suc i) (omega arith)) (omega arith))
+
+    pub filled-row : (l : List B) (area : List A) (s : ℕ) → ((i : ℕ) → i < length l → length (cellsOf (getD l i b)) ≡ m) → s < length l
+        → rowAt (atFront (joined (map cellsOf l)) area) m s ≡ cellsOf (getD l s b)
+    unfolding atFront
+    filled-row l area s wide h = joined-row l (drop (length (joined (map cellsOf l))) area) s wide h

@@ -100,7 +100,7 @@ pub fn store_row(keys: &mut [i32], m: usize, row: usize, key: &[i32; 8])
 }
 
 // The row's cells as a key, with 0 past them.
-pub fn load_row(keys: &[i32], m: usize, row: usize) -> [i32; 8]
+fn load_row(keys: &[i32], m: usize, row: usize) -> [i32; 8]
     requires { ⌜ (m ≤ 8) × (row * m + m ≤ length (now keys)) ⌝ }
     ensures { λ r. ⌜ (take m r ≡ rowAt (now (keys .entry)) m row) × (length r ≡ 8) ⌝ }
 {
