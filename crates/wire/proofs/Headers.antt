@@ -10,7 +10,7 @@ use Rattle.scope.specs.declared.RecordAnswer.{RecordAnswer}
 use Rattle.scope.specs.Refusals.{refusal, firstRefusal}
 use Rattle.scope.specs.Wire.{lengthAt, kindAt, headerThere, bodyThere, recordAt}
 use Rattle.wire.specs.Steps.{headerOr, headerAt}
-use Rattle.wire.specs.declared.HeaderAnswer.{HeaderAnswer}
+use Rattle.wire.specs.declared.records.HeaderAnswer.{HeaderAnswer}
 
 module _ (b : List ℕ) (at : ℕ) where
   pub record HeaderFound (kind len : ℕ) : Type 0 where

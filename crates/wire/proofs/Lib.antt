@@ -1,1 +1,3 @@
 pub mod Headers
+pub mod Codes
+pub mod Shapes

@@ -5,7 +5,7 @@ use mathlib.Core.List.{List, []}
 use lib.ListN.{length, take, drop}
 use lib.Dec.{leb}
 use Rattle.scope.specs.Wire.{kindAt, lengthAt, headerThere}
-use Rattle.wire.specs.declared.HeaderAnswer.{HeaderAnswer}
+use Rattle.wire.specs.declared.records.HeaderAnswer.{HeaderAnswer}
 
 -- ---- a header
 

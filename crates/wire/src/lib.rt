@@ -1,54 +1,15 @@
 // Questions as bytes: records, reading a question whole or from a place on, and writing one, as document 01 has them.
 ghost use mathlib.Core.Path.{_≡_};
-ghost use Prim.Native.Nat.{_+_, _<_, _≤_};
-ghost use lib.ListN.{length};
-ghost use Rattle.scope.specs.Wire.{twoAt, recordAt};
-ghost use Rattle.wire.specs.Steps.{headerAt, partOf};
+ghost use Rattle.scope.specs.Wire.{recordAt};
+ghost use Rattle.wire.specs.Steps.{partOf};
+
+mod records;
+mod shape;
+
+use records::HeaderAnswer;
+use records::header_at;
 use scope::RecordAnswer;
 use scope::Refusal;
-
-// The header of a record: its kind and the length of its body. Cut: fewer than 4 bytes are left.
-enum HeaderAnswer {
-    Header { kind: u16, len: usize },
-    Cut,
-}
-
-fn wide(byte: u8) -> u16
-    ensures { λ r. ⌜ (r ≡ byte) × (r < 256) ⌝ }
-{
-    byte as u16
-}
-
-fn wider(two: u16) -> usize
-    ensures { λ r. ⌜ (r ≡ two) × (r < 65536) ⌝ }
-{
-    two as usize
-}
-
-fn two_at(bytes: &[u8], at: usize) -> u16
-    requires { ⌜ at + 1 < length (now bytes) ⌝ }
-    ensures { λ r. ⌜ r ≡ twoAt (now (bytes .entry)) at ⌝ }
-{
-    let low = wide(bytes[at]);
-    let next = at + 1;
-    let high = wide(bytes[next]);
-    low + 256 * high
-}
-
-fn header_at(bytes: &[u8], at: usize) -> HeaderAnswer
-    ensures { λ r. ⌜ r ≡ headerAt (now (bytes .entry)) at ⌝ }
-{
-    let n = bytes.len();
-    if n < at {
-        return HeaderAnswer::Cut;
-    }
-    if n - at < 4 {
-        return HeaderAnswer::Cut;
-    }
-    let len = wider(two_at(bytes, at));
-    let kind = two_at(bytes, at + 2);
-    HeaderAnswer::Header { kind, len }
-}
 
 pub fn record_at(bytes: &[u8], at: usize) -> RecordAnswer
     ensures { λ r. ⌜ r ≡ recordAt (now (bytes .entry)) at ⌝ }

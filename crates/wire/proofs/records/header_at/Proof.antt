@@ -9,9 +9,9 @@ use lib.ListN.{length}
 use denote.Ref.{now}
 use Rattle.scope.specs.Wire.{twoAt}
 use Rattle.wire.specs.Steps.{headerAt}
-use Rattle.wire.specs.declared.HeaderAnswer.{HeaderAnswer}
-use Rattle.wire.proofs.header_at.Statement.{statement}
-use Rattle.wire.proofs.header_at.Tie as tie
+use Rattle.wire.specs.declared.records.HeaderAnswer.{HeaderAnswer}
+use Rattle.wire.proofs.records.header_at.Statement.{statement}
+use Rattle.wire.proofs.records.header_at.Tie as tie
 
 short : (b : List ℕ) (at : ℕ) → length b < at + 4 → HeaderAnswer.Cut ≡ headerAt b at
 short b at h = simp (lt-leb _ _ h)

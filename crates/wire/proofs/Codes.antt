@@ -1,0 +1,55 @@
+-- Node codes and the nodes that they stand for.
+use mathlib.Core.Path.{_≡_, refl}
+use mathlib.Core.Bool.{Bool, true, false}
+use Prim.Native.Nat.{ℕ, zero, suc, _+_, _<_, _≤_}
+use native.Mathlib.Omega.{arith}
+use borrow.Author.Tests.{ne-eqb, lt-leb}
+use lib.Dec.{leb}
+use Rattle.scope.specs.Question.{Node, unused, atom, equation, atMost, nodeOf, codeOf, isUnused, isAtom, parts}
+
+pub node-of-code : (x : Node) → nodeOf (codeOf x) ≡ x
+node-of-code unused = refl
+node-of-code (atom equation) = refl
+node-of-code (atom atMost) = refl
+node-of-code Node.not = refl
+node-of-code Node.and = refl
+node-of-code Node.or = refl
+
+pub code-small : (x : Node) → codeOf x ≤ 5
+code-small unused = omega arith
+code-small (atom equation) = omega arith
+code-small (atom atMost) = omega arith
+code-small Node.not = omega arith
+code-small Node.and = omega arith
+code-small Node.or = omega arith
+
+pub other-code : (c : ℕ) → 6 ≤ c → nodeOf c ≡ unused
+other-code c h =
+    simp (ne-eqb c 1 (λ e. omega arith), ne-eqb c 2 (λ e. omega arith), ne-eqb c 3 (λ e. omega arith), ne-eqb c 4 (λ e. omega arith), ne-eqb c 5 (λ e. omega arith))
+
+-- the codes of atoms
+pub atom-code : (c : ℕ) → 1 ≤ c → c ≤ 2 → (isAtom (nodeOf c) ≡ true) × (parts (nodeOf c) ≡ 0)
+atom-code zero h k = absurd (omega arith)
+atom-code (suc zero) h k = (refl, refl)
+atom-code (suc (suc zero)) h k = (refl, refl)
+atom-code (suc (suc (suc c))) h k = absurd (omega arith)
+
+-- the codes of nodes with two parts
+pub two-code : (c : ℕ) → 4 ≤ c → c ≤ 5 → (isAtom (nodeOf c) ≡ false) × (parts (nodeOf c) ≡ 2)
+two-code zero h k = absurd (omega arith)
+two-code (suc zero) h k = absurd (omega arith)
+two-code (suc (suc zero)) h k = absurd (omega arith)
+two-code (suc (suc (suc zero))) h k = absurd (omega arith)
+two-code (suc (suc (suc (suc zero)))) h k = (refl, refl)
+two-code (suc (suc (suc (suc (suc zero))))) h k = (refl, refl)
+two-code (suc (suc (suc (suc (suc (suc c)))))) h k = absurd (omega arith)
+
+pub atom-test : (c : ℕ) → (c ≡ 0 → ⊥) → leb c 2 ≡ isAtom (nodeOf c)
+atom-test zero h = absurd (h refl)
+atom-test (suc zero) h = refl
+atom-test (suc (suc zero)) h = refl
+atom-test (suc (suc (suc zero))) h = refl
+atom-test (suc (suc (suc (suc zero)))) h = refl
+atom-test (suc (suc (suc (suc (suc zero))))) h = refl
+atom-test (suc (suc (suc (suc (suc (suc c)))))) h =
+    rw (lt-leb (suc (suc (suc (suc (suc (suc c)))))) 2 (omega arith), other-code (suc (suc (suc (suc (suc (suc c)))))) (omega arith))

@@ -1,0 +1,46 @@
+-- The code's shape of a formula, and document 01's: the parts still due are what stands from top on.
+use Prim.Native.Nat.{ℕ, _+_, _≤_, _<_}
+use mathlib.Core.Path.{_≡_}
+use mathlib.Core.List.{List}
+use lib.ListN.{length, getD, drop}
+use Rattle.scope.specs.Question.{nodeOf}
+use Rattle.scope.specs.Wire as wire
+use Rattle.wire.specs.declared.shape.Shape.{Shape}
+
+abbrev pub dueOf : Shape → List ℕ
+dueOf s = drop (s .top) (s .due)
+
+abbrev pub shapeOf : Shape → wire.Shape
+shapeOf s = record { nodes = s .nodes; atoms = s .atoms; due = dueOf s }
+
+-- no more parts are due than there are nodes, and one
+pub record Sound (s : Shape) : Type 0 where
+  pub full : length (s .due) ≡ 66
+  pub within : s .top ≤ 66
+  pub few : 65 ≤ s .top + s .nodes
+  pub bounded : s .nodes ≤ 64
+  pub sparse : s .atoms ≤ s .nodes
+
+pub record Unread (s : Shape) : Type 0 where
+  pub sound : Sound s
+  pub shape : shapeOf s ≡ wire.unread
+
+-- the depth of the part that is due first, and the parts due after it
+abbrev pub depthOf : Shape → ℕ
+depthOf s = getD (s .due) (s .top) 0
+
+abbrev pub laterOf : Shape → List ℕ
+laterOf s = drop (s .top + 1) (s .due)
+
+-- a node can take the place of the part that is due first
+pub record Open (s : Shape) (code : ℕ) : Type 0 where
+  pub sound : Sound s
+  pub due : s .top < 66
+  pub room : s .nodes < 64
+  pub shallow : depthOf s ≤ 16
+  pub node : 1 ≤ code
+  pub known : code ≤ 5
+
+pub record Grown (s : Shape) (code : ℕ) (r : Shape) : Type 0 where
+  pub sound : Sound r
+  pub shape : shapeOf r ≡ wire.grown (nodeOf code) (depthOf s) (laterOf s) (shapeOf s)

@@ -1,0 +1,69 @@
+// The formula as far as it is known, which reading and writing both walk along.
+ghost use mathlib.Core.Path.{_≡_};
+ghost use Prim.Native.Nat.{_+_, _*_, _≤_, _<_};
+ghost use lib.ListN.{getD};
+ghost use Rattle.scope.specs.Question.{nodeOf, isAtom};
+ghost use Rattle.wire.specs.Formula.{Open, Grown, Unread};
+
+// Its nodes and atoms so far. The depths of the parts still due stand in due from top on, the next one first.
+pub struct Shape {
+    pub nodes: usize,
+    pub atoms: usize,
+    pub top: usize,
+    pub due: [u8; 66],
+}
+
+// One formula is due, its root at depth 1.
+pub fn unread() -> Shape
+    ensures { λ r. ⌜ Unread r ⌝ }
+{
+    Shape {
+        nodes: 0,
+        atoms: 0,
+        top: 65,
+        due: [1u8; 66],
+    }
+}
+
+pub fn is_atom(code: u8) -> bool
+    ensures { λ r. ⌜ r ≡ isAtom (nodeOf code) ⌝ }
+{
+    if code == 0 { false } else { code <= 2 }
+}
+
+// A node takes the place of the part that was due first, and its own parts are due before the others, one deeper.
+pub fn grown(shape: Shape, code: u8) -> Shape
+    requires { ⌜ Open shape code ⌝ }
+    ensures { λ r. ⌜ Grown shape code r ⌝ }
+{
+    let top = shape.top;
+    let nodes = shape.nodes + 1;
+    let atoms = shape.atoms;
+    let mut due = shape.due;
+    let deeper = due[top] + 1;
+    if code <= 2 {
+        return Shape {
+            nodes,
+            atoms: atoms + 1,
+            top: top + 1,
+            due,
+        };
+    }
+    due[top] = deeper;
+    if code == 3 {
+        return Shape {
+            nodes,
+            atoms,
+            top,
+            due,
+        };
+    }
+    let below = top - 1;
+    due[below] = deeper;
+    Shape {
+        nodes,
+        atoms,
+        top: below,
+        due,
+    }
+}
