@@ -1,11 +1,11 @@
 -- Node codes and the nodes that they stand for.
 use mathlib.Core.Path.{_≡_, refl}
-use mathlib.Core.Bool.{Bool, true, false}
-use Prim.Native.Nat.{ℕ, zero, suc, _+_, _<_, _≤_}
+use mathlib.Core.Bool.{true, false}
+use Prim.Native.Nat.{ℕ, zero, suc, _≤_}
 use native.Mathlib.Omega.{arith}
 use borrow.Author.Tests.{ne-eqb, lt-leb}
 use lib.Dec.{leb}
-use Rattle.scope.specs.Question.{Node, unused, atom, equation, atMost, nodeOf, codeOf, isUnused, isAtom, parts}
+use Rattle.scope.specs.Question.{Node, unused, atom, equation, atMost, nodeOf, codeOf, isAtom, parts}
 
 pub node-of-code : (x : Node) → nodeOf (codeOf x) ≡ x
 node-of-code unused = refl

@@ -1,5 +1,5 @@
 -- What a header says of the bytes, and a record step by what was found.
-use mathlib.Core.Path.{_≡_, refl, sym, ap, _∙_}
+use mathlib.Core.Path.{_≡_, refl}
 use mathlib.Core.Bool.{Bool, true, false}
 use mathlib.Core.List.{List}
 use Prim.Native.Nat.{ℕ, _+_, _<_, _≤_}
@@ -8,7 +8,7 @@ use borrow.Author.Tests.{le-leb, lt-leb, leb-true, leb-false}
 use lib.ListN.{length}
 use Rattle.scope.specs.declared.RecordAnswer.{RecordAnswer}
 use Rattle.scope.specs.Refusals.{refusal, firstRefusal}
-use Rattle.scope.specs.Wire.{lengthAt, kindAt, headerThere, bodyThere, recordAt}
+use Rattle.scope.specs.Wire.{lengthAt, kindAt, headerThere, recordAt}
 use Rattle.wire.specs.Steps.{headerOr, headerAt}
 use Rattle.wire.specs.declared.records.HeaderAnswer.{HeaderAnswer}
 

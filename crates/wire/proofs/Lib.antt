@@ -1,3 +1,4 @@
 pub mod Headers
 pub mod Codes
 pub mod Shapes
+pub mod Bodies

@@ -1,6 +1,5 @@
 -- A shape grown by a node: an atom, a node with one part, a node with two.
-use mathlib.Core.Path.{_≡_, refl, sym, ap, _∙_}
-use mathlib.Core.Bool.{Bool, true, false}
+use mathlib.Core.Path.{_≡_, sym, ap, _∙_}
 use mathlib.Core.List.{List, _∷_}
 use Prim.Native.Nat.{ℕ, suc, _+_, _-_, _<_, _≤_}
 use native.Mathlib.Omega.{arith}
@@ -8,10 +7,9 @@ use native.Mathlib.Nat.{add-zero}
 use native.Mathlib.Numerals.{add-one}
 use lib.ListN.{length, set, drop, take, length-set}
 use lib.Seq.{set-split, drop-at, length-take-le}
-use Rattle.scope.specs.Question.{nodeOf, isAtom, parts}
 use Rattle.scope.specs.Wire as wire
 use Rattle.wire.specs.declared.shape.Shape.{Shape}
-use Rattle.wire.specs.Formula.{Sound, Open, Grown, shapeOf, depthOf, laterOf}
+use Rattle.wire.specs.Formula.{Open, Grown, depthOf}
 use Rattle.wire.proofs.Codes.{atom-code, two-code}
 
 -- a store at i is what stands first from i on

@@ -1,6 +1,6 @@
 -- The steps between document 01's definitions and the code: a header, and a stretch of bytes.
-use Prim.Native.Nat.{ℕ, _+_, _-_}
-use mathlib.Core.Bool.{Bool, true, false, cond, _&&_}
+use Prim.Native.Nat.{ℕ, _-_}
+use mathlib.Core.Bool.{Bool, true, false, cond}
 use mathlib.Core.List.{List, []}
 use lib.ListN.{length, take, drop}
 use lib.Dec.{leb}

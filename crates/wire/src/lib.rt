@@ -3,6 +3,7 @@ ghost use mathlib.Core.Path.{_≡_};
 ghost use Rattle.scope.specs.Wire.{recordAt};
 ghost use Rattle.wire.specs.Steps.{partOf};
 
+mod numbers;
 mod records;
 mod shape;
 

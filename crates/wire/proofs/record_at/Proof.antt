@@ -1,13 +1,8 @@
 -- `wire::record_at` meets its contract: what the header says and whether the body is there decide the case of `recordAt`.
 use borrow.Author.Needs.{needs}
 use native.Mathlib.Omega.{arith}
-use mathlib.Core.Path.{_≡_, _∙_, sym}
-use Prim.Native.Nat.{ℕ, _+_, _<_, _≤_}
-use mathlib.Core.List.{List}
-use lib.ListN.{length}
+use mathlib.Core.Path.{_∙_, sym}
 use denote.Ref.{now}
-use Rattle.scope.specs.Wire.{lengthAt}
-use Rattle.wire.specs.Steps.{headerAt}
 use Rattle.wire.proofs.Headers.{HeaderFound, found, cut, step-short, step-cut, step-whole}
 use Rattle.wire.proofs.record_at.Statement.{statement}
 use Rattle.wire.proofs.record_at.Tie as tie

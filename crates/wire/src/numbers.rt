@@ -1,0 +1,56 @@
+// The numbers of an atom: within their limits, in a body, and put into a row.
+ghost use mathlib.Core.Path.{_≡_};
+ghost use Prim.Native.Nat.{_+_, _*_, _≤_};
+ghost use lib.ListN.{length};
+ghost use lib.Seq.{sets};
+ghost use Rattle.scope.specs.Sizes.{coefficientFits, constantFits, numbersFit};
+ghost use Rattle.scope.specs.Wire.{numberAt, numbersAt};
+use scope::Question;
+use whole::number_at;
+
+pub fn coefficient_fits(number: i32) -> bool
+    ensures { λ r. ⌜ r ≡ coefficientFits number ⌝ }
+{
+    if number < -Question::COEFFICIENT {
+        return false;
+    }
+    number <= Question::COEFFICIENT
+}
+
+pub fn constant_fits(number: i32) -> bool
+    ensures { λ r. ⌜ r ≡ constantFits number ⌝ }
+{
+    if number < -Question::CONSTANT {
+        return false;
+    }
+    number <= Question::CONSTANT
+}
+
+// Of the body of an atom.
+pub fn numbers_fit(body: &[u8], n: usize) -> bool
+    requires { ⌜ (n ≤ 6) × (4 * n + 4 ≤ length (now body)) ⌝ }
+    ensures { λ r. ⌜ r ≡ numbersFit (numbersAt n (now (body .entry)) 0) (numberAt (now (body .entry)) (4 * n)) ⌝ }
+{
+    let mut i = 0;
+    while i < n {
+        if !coefficient_fits(number_at(body, 4 * i)) {
+            return false;
+        }
+        i += 1;
+    }
+    constant_fits(number_at(body, 4 * n))
+}
+
+// The coefficients with those of an atom's body from a cell on.
+pub fn with_numbers(coefficients: [i32; 48], cell: usize, body: &[u8], n: usize) -> [i32; 48]
+    requires { ⌜ (n ≤ 6) × ((4 * n + 4 ≤ length (now body)) × (cell + n ≤ 48)) ⌝ }
+    ensures { λ r. ⌜ r ≡ sets coefficients cell (numbersAt n (now (body .entry)) 0) ⌝ }
+{
+    let mut all = coefficients;
+    let mut i = 0;
+    while i < n {
+        all[cell + i] = number_at(body, 4 * i);
+        i += 1;
+    }
+    all
+}
