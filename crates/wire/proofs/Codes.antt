@@ -15,6 +15,15 @@ node-of-code Node.not = refl
 node-of-code Node.and = refl
 node-of-code Node.or = refl
 
+pub code-of-node : (c : ℕ) → c ≤ 5 → codeOf (nodeOf c) ≡ c
+code-of-node zero h = refl
+code-of-node (suc zero) h = refl
+code-of-node (suc (suc zero)) h = refl
+code-of-node (suc (suc (suc zero))) h = refl
+code-of-node (suc (suc (suc (suc zero)))) h = refl
+code-of-node (suc (suc (suc (suc (suc zero))))) h = refl
+code-of-node (suc (suc (suc (suc (suc (suc c)))))) h = absurd (omega arith)
+
 pub code-small : (x : Node) → codeOf x ≤ 5
 code-small unused = omega arith
 code-small (atom equation) = omega arith

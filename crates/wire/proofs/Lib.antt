@@ -1,4 +1,8 @@
 pub mod Headers
+pub mod Frames
+pub mod Stretches
+pub mod Nodes
+pub mod Noting
 pub mod Codes
 pub mod Shapes
 pub mod Bodies

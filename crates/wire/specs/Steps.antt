@@ -1,11 +1,21 @@
--- The steps between document 01's definitions and the code: a header, and a stretch of bytes.
-use Prim.Native.Nat.{ℕ, _-_}
-use mathlib.Core.Bool.{Bool, true, false, cond}
-use mathlib.Core.List.{List, []}
+-- The steps between document 01's definitions and the code: a header, a stretch of bytes, and the checks at a record by what they answer.
+use Prim.Native.Nat.{ℕ, _+_, _-_, _*_, _≤_, _<_}
+use mathlib.Core.Path.{_≡_}
+use mathlib.Core.Bool.{Bool, true, false, not, cond, _||_}
+use mathlib.Core.Option.{Option, none, some}
+use mathlib.Core.List.{List, [], _∷_, _++_}
 use lib.ListN.{length, take, drop}
-use lib.Dec.{leb}
-use Rattle.scope.specs.Wire.{kindAt, lengthAt, headerThere}
+use lib.Dec.{leb, ltb, eqb}
+use Rattle.scope.specs.declared.Question.{Question}
+use Rattle.scope.specs.declared.Refusal.{Refusal}
+use Rattle.scope.specs.Sizes.{mostNodes, mostAtoms, mostDepth, variablesFit, numbersFit}
+use Rattle.scope.specs.Question.{Node, nodeOf, codeOf, isUnused, isAtom}
+use Rattle.scope.specs.Refusals.{Check, check, firstRefusal}
+use Rattle.scope.specs.Wire.{byteAt, numberAt, numbersAt, kindAt, lengthAt, headerThere, bodyThere, headKind, nodeOfKind, bodyLength, noted}
 use Rattle.wire.specs.declared.records.HeaderAnswer.{HeaderAnswer}
+use Rattle.wire.specs.declared.reading.FrameAnswer.{FrameAnswer}
+use Rattle.wire.specs.declared.reading.HeadAnswer.{HeadAnswer}
+use Rattle.wire.specs.declared.reading.NodeAnswer.{NodeAnswer}
 
 -- ---- a header
 
@@ -20,3 +30,76 @@ headerAt b at = headerOr (headerThere b at) b at
 
 abbrev pub partOf : List ℕ → ℕ → ℕ → List ℕ
 partOf b start len = cond (leb start (length b)) (cond (leb len (length b - start)) (take len (drop start b)) []) []
+
+-- ---- a record of a known kind and length
+
+abbrev pub frameChecks : List ℕ → ℕ → ℕ → ℕ → List Check
+frameChecks b at due size =
+    check 1 at (headerThere b at) ∷
+    check 2 at (eqb (kindAt b at) due) ∷
+    check 3 at (eqb (lengthAt b at) size) ∷
+    check 1 at (bodyThere b at) ∷
+    []
+
+abbrev pub frameOr : Option Refusal → FrameAnswer
+frameOr none = FrameAnswer.There
+frameOr (some r) = FrameAnswer.Refused r
+
+abbrev pub frameAnswer : List ℕ → ℕ → ℕ → ℕ → FrameAnswer
+frameAnswer b at due size = frameOr (firstRefusal (frameChecks b at due size))
+
+-- ---- the head
+
+abbrev pub headChecks : List ℕ → ℕ → List Check
+headChecks b at = frameChecks b at headKind 1 ++ (check 4 at (variablesFit (byteAt b (at + 4))) ∷ [])
+
+abbrev pub headOr : Option Refusal → ℕ → HeadAnswer
+headOr none n = HeadAnswer.Head n
+headOr (some r) n = HeadAnswer.Refused r
+
+abbrev pub headAnswer : List ℕ → ℕ → HeadAnswer
+headAnswer b at = headOr (firstRefusal (headChecks b at)) (byteAt b (at + 4))
+
+-- ---- a node
+
+abbrev pub nodeHere : List ℕ → ℕ → Node
+nodeHere b at = nodeOfKind (kindAt b at)
+
+abbrev pub nodeFrameChecks : List ℕ → ℕ → ℕ → List Check
+nodeFrameChecks b at n =
+    check 1 at (headerThere b at) ∷
+    check 2 at (not (isUnused (nodeHere b at))) ∷
+    check 3 at (eqb (lengthAt b at) (bodyLength n (nodeHere b at))) ∷
+    check 1 at (bodyThere b at) ∷
+    []
+
+abbrev pub nodeSizeChecks : List ℕ → ℕ → ℕ → ℕ → ℕ → ℕ → List Check
+nodeSizeChecks b at n nodes atoms depth =
+    check 5 at (ltb nodes mostNodes) ∷
+    check 5 at (not (isAtom (nodeHere b at)) || ltb atoms mostAtoms) ∷
+    check 5 at (leb depth mostDepth) ∷
+    check 4 at (not (isAtom (nodeHere b at)) || numbersFit (numbersAt n b (at + 4)) (numberAt b (at + 4 + 4 * n))) ∷
+    []
+
+abbrev pub nodeOr : Option Refusal → ℕ → Node → NodeAnswer
+nodeOr none n x = NodeAnswer.Node (codeOf x) (bodyLength n x)
+nodeOr (some r) n x = NodeAnswer.Refused r
+
+abbrev pub nodeFrame : List ℕ → ℕ → ℕ → NodeAnswer
+nodeFrame b at n = nodeOr (firstRefusal (nodeFrameChecks b at n)) n (nodeHere b at)
+
+abbrev pub nodeAnswer : List ℕ → ℕ → ℕ → ℕ → ℕ → ℕ → NodeAnswer
+nodeAnswer b at n nodes atoms depth = nodeOr (firstRefusal (nodeFrameChecks b at n ++ nodeSizeChecks b at n nodes atoms depth)) n (nodeHere b at)
+
+-- ---- a node noted
+
+pub record Notable (q : Question) (code nodes atoms : ℕ) (body : List ℕ) : Type 0 where
+  pub known : code ≤ 5
+  pub room : nodes < 64
+  pub few : isAtom (nodeOf code) ≡ true → atoms < 8
+  pub variables : q .n ≤ 6
+  pub numbers : isAtom (nodeOf code) ≡ true → length body ≡ 4 * (q .n + 1)
+
+abbrev pub notedBody : Question → ℕ → ℕ → ℕ → List ℕ → Question
+notedBody q code nodes atoms body =
+    noted (isAtom (nodeOf code)) (nodeOf code) (numbersAt (q .n) body 0) (numberAt body (4 * q .n)) (record { nodes = nodes; atoms = atoms; due = [] }) q

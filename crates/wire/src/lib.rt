@@ -4,6 +4,7 @@ ghost use Rattle.scope.specs.Wire.{recordAt};
 ghost use Rattle.wire.specs.Steps.{partOf};
 
 mod numbers;
+mod reading;
 mod records;
 mod shape;
 

@@ -17,6 +17,12 @@ pub fn wide(byte: u8) -> u16
     byte as u16
 }
 
+pub fn count_of(byte: u8) -> usize
+    ensures { λ r. ⌜ (r ≡ byte) × (r < 256) ⌝ }
+{
+    byte as usize
+}
+
 pub fn wider(two: u16) -> usize
     ensures { λ r. ⌜ (r ≡ two) × (r < 65536) ⌝ }
 {

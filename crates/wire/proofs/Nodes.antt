@@ -1,0 +1,196 @@
+-- The head and a node by what the checks of their frames said, and the checks after those.
+use mathlib.Core.Path.{_≡_, refl, sym, ap, _∙_}
+use mathlib.Core.Bool.{Bool, true, false, not, _&&_, _||_}
+use mathlib.Core.Option.{Option, none, some}
+use mathlib.Core.List.{List, [], _∷_, _++_}
+use Prim.Native.Nat.{ℕ, _+_, _*_, _<_, _≤_}
+use native.Mathlib.Omega.{arith}
+use borrow.Author.Tests.{le-leb, lt-leb, le-ltb, lt-ltb, leb-true, eqb-true}
+use lib.ListN.{length}
+use lib.Dec.{leb, ltb, eqb}
+use Rattle.scope.specs.declared.Refusal.{Refusal}
+use Rattle.scope.specs.Sizes.{variablesFit, numbersFit}
+use Rattle.scope.specs.Question.{Node, unused, atom, equation, atMost, nodeOf, codeOf, isUnused, isAtom}
+use Rattle.scope.specs.Refusals.{Check, check, refusal, unlessPassed, firstRefusal}
+use Rattle.scope.specs.Wire.{byteAt, numberAt, numbersAt, kindAt, lengthAt, headerThere, bodyThere, headKind, bodyLength}
+use Rattle.wire.specs.Steps.{frameChecks, frameOr, frameAnswer, headChecks, headOr, headAnswer, nodeHere, nodeFrameChecks, nodeSizeChecks, nodeOr, nodeFrame, nodeAnswer, partOf}
+use Rattle.wire.specs.declared.reading.FrameAnswer.{FrameAnswer}
+use Rattle.wire.specs.declared.reading.HeadAnswer.{HeadAnswer}
+use Rattle.wire.specs.declared.reading.NodeAnswer.{NodeAnswer}
+use Rattle.wire.proofs.Codes.{node-of-code, code-small}
+use Rattle.wire.proofs.Stretches.{part-number, part-numbers}
+use Rattle.wire.proofs.Frames.{Framed, framed, none-before, some-before}
+
+-- ---- a frame's answer says what was refused
+
+frame-none : (o : Option Refusal) → frameOr o ≡ FrameAnswer.There → o ≡ none
+frame-none none e = refl
+frame-none (some r) e = let z : _≡_ {A = ℕ} 0 1 = cc in absurd (omega arith)
+
+frame-some : (o : Option Refusal) (r : Refusal) → frameOr o ≡ FrameAnswer.Refused r → o ≡ some r
+frame-some none r e = let z : _≡_ {A = ℕ} 0 1 = cc in absurd (omega arith)
+frame-some (some s) r e = cc
+
+pub frame-passed : (b : List ℕ) (at due size : ℕ) → frameAnswer b at due size ≡ FrameAnswer.There → firstRefusal (frameChecks b at due size) ≡ none
+frame-passed b at due size e = frame-none (firstRefusal (frameChecks b at due size)) e
+
+pub frame-failed : (b : List ℕ) (at due size : ℕ) (r : Refusal) → frameAnswer b at due size ≡ FrameAnswer.Refused r → firstRefusal (frameChecks b at due size) ≡ some r
+frame-failed b at due size r e = frame-some (firstRefusal (frameChecks b at due size)) r e
+
+frame-facts : (b : List ℕ) (at due size : ℕ) → frameAnswer b at due size ≡ FrameAnswer.There
+    → Framed (headerThere b at) (eqb (kindAt b at) due) (eqb (lengthAt b at) size) (bodyThere b at)
+frame-facts b at due size e = framed at (headerThere b at) (eqb (kindAt b at) due) (eqb (lengthAt b at) size) (bodyThere b at) (frame-passed b at due size e)
+
+pub frame-within : (b : List ℕ) (at due size : ℕ) → frameAnswer b at due size ≡ FrameAnswer.There → at + 4 + size ≤ length b
+frame-within b at due size e =
+    let f = frame-facts b at due size e in
+    omega (arith, eqb-true (lengthAt b at) size (f .length-exact), leb-true (at + 4 + lengthAt b at) (length b) (f .body-there))
+
+-- ---- the head
+
+module _ (b : List ℕ) (at : ℕ) where
+  pub head-refused : (r : Refusal) → frameAnswer b at headKind 1 ≡ FrameAnswer.Refused r → HeadAnswer.Refused r ≡ headAnswer b at
+  head-refused r e = sym (ap (λ (o : Option Refusal). headOr o (byteAt b (at + 4))) (some-before (frameChecks b at headKind 1) _ r (frame-failed b at headKind 1 r e)))
+
+  head-after : (t : Bool) → frameAnswer b at headKind 1 ≡ FrameAnswer.There → variablesFit (byteAt b (at + 4)) ≡ t
+      → firstRefusal (headChecks b at) ≡ unlessPassed t (refusal 4 at) none
+  unfolding firstRefusal
+  head-after t e v = none-before (frameChecks b at headKind 1) (check 4 at (variablesFit (byteAt b (at + 4))) ∷ []) (frame-passed b at headKind 1 e) ∙ rw v
+
+  pub head-beyond : frameAnswer b at headKind 1 ≡ FrameAnswer.There → variablesFit (byteAt b (at + 4)) ≡ false → HeadAnswer.Refused (refusal 4 at) ≡ headAnswer b at
+  head-beyond e v = sym (ap (λ (o : Option Refusal). headOr o (byteAt b (at + 4))) (head-after false e v))
+
+  pub head-there : frameAnswer b at headKind 1 ≡ FrameAnswer.There → variablesFit (byteAt b (at + 4)) ≡ true → HeadAnswer.Head (byteAt b (at + 4)) ≡ headAnswer b at
+  head-there e v = sym (ap (λ (o : Option Refusal). headOr o (byteAt b (at + 4))) (head-after true e v))
+
+pub variables-none : (n : ℕ) → n < 1 → variablesFit n ≡ false
+variables-none n h = rw (lt-leb 1 n h)
+
+pub variables-many : (n : ℕ) → 1 ≤ n → 6 < n → variablesFit n ≡ false
+variables-many n h k = rw (le-leb 1 n h, lt-leb n 6 k)
+
+pub variables-fit : (n : ℕ) → 1 ≤ n → n ≤ 6 → variablesFit n ≡ true
+variables-fit n h k = rw (le-leb 1 n h, le-leb n 6 k)
+
+-- ---- a node
+
+node-none : (o : Option Refusal) (n : ℕ) (x : Node) (code len : ℕ) → nodeOr o n x ≡ NodeAnswer.Node code len → (o ≡ none) × ((code ≡ codeOf x) × (len ≡ bodyLength n x))
+node-none none n x code len e = (refl, (cc, cc))
+node-none (some r) n x code len e = let z : _≡_ {A = ℕ} 0 1 = cc in absurd (omega arith)
+
+node-some : (o : Option Refusal) (n : ℕ) (x : Node) (r : Refusal) → nodeOr o n x ≡ NodeAnswer.Refused r → o ≡ some r
+node-some none n x r e = let z : _≡_ {A = ℕ} 0 1 = cc in absurd (omega arith)
+node-some (some s) n x r e = cc
+
+-- the size of the formula, and the numbers
+abbrev sizes : ℕ → Bool → Bool → Bool → Bool → List Check
+sizes at room few shallow fit = check 5 at room ∷ check 5 at few ∷ check 5 at shallow ∷ check 4 at fit ∷ []
+
+no-room : (at : ℕ) (room few shallow fit : Bool) → room ≡ false → firstRefusal (sizes at room few shallow fit) ≡ some (refusal 5 at)
+unfolding firstRefusal
+no-room at room few shallow fit r = rw r
+
+too-large : (at : ℕ) (room few shallow fit : Bool) → room ≡ true → (few && shallow) ≡ false → firstRefusal (sizes at room few shallow fit) ≡ some (refusal 5 at)
+unfolding firstRefusal
+too-large at room true shallow fit r e = rw (r, e)
+too-large at room false shallow fit r e = rw r
+
+left-fit : (at : ℕ) (room few shallow fit : Bool) → room ≡ true → (few && shallow) ≡ true → firstRefusal (sizes at room few shallow fit) ≡ unlessPassed fit (refusal 4 at) none
+unfolding firstRefusal
+left-fit at room true shallow fit r e = rw (r, e)
+left-fit at room false shallow fit r e = let z : _≡_ {A = ℕ} 0 1 = cc in absurd (omega arith)
+
+-- a node whose frame is there
+pub record NodeKnown (b : List ℕ) (at n code len : ℕ) : Type 0 where
+  pub passed : firstRefusal (nodeFrameChecks b at n) ≡ none
+  pub codeIs : code ≡ codeOf (nodeHere b at)
+  pub lenIs : len ≡ bodyLength n (nodeHere b at)
+  pub node : nodeOf code ≡ nodeHere b at
+  pub within : at + 4 + len ≤ length b
+  pub used : 1 ≤ code
+  pub small : code ≤ 5
+
+used-code : (x : Node) → not (isUnused x) ≡ true → 1 ≤ codeOf x
+used-code unused e = let z : _≡_ {A = ℕ} 0 1 = cc in absurd (omega arith)
+used-code (atom equation) e = omega arith
+used-code (atom atMost) e = omega arith
+used-code Node.not e = omega arith
+used-code Node.and e = omega arith
+used-code Node.or e = omega arith
+
+pub known : (b : List ℕ) (at n code len : ℕ) → nodeFrame b at n ≡ NodeAnswer.Node code len → NodeKnown b at n code len
+known b at n code len e =
+    let x = nodeHere b at in
+    let h = node-none (firstRefusal (nodeFrameChecks b at n)) n x code len e in
+    let f = framed at (headerThere b at) (not (isUnused x)) (eqb (lengthAt b at) (bodyLength n x)) (bodyThere b at) (h .0) in
+    record {
+      passed = h .0;
+      codeIs = h .1 .0;
+      lenIs = h .1 .1;
+      node = ap nodeOf (h .1 .0) ∙ node-of-code x;
+      within = omega (arith, h .1 .1, eqb-true (lengthAt b at) (bodyLength n x) (f .length-exact), leb-true (at + 4 + lengthAt b at) (length b) (f .body-there));
+      used = rw (h .1 .0) (used-code x (f .kind-due));
+      small = rw (h .1 .0) (code-small x);
+    }
+
+module _ (b : List ℕ) (at n nodes atoms depth : ℕ) where
+  abbrev fit : Bool
+  fit = not (isAtom (nodeHere b at)) || numbersFit (numbersAt n b (at + 4)) (numberAt b (at + 4 + 4 * n))
+
+  abbrev few : Bool
+  few = not (isAtom (nodeHere b at)) || ltb atoms 8
+
+  abbrev answer : Option Refusal → NodeAnswer
+  answer o = nodeOr o n (nodeHere b at)
+
+  pub frame-kept : (r : Refusal) → nodeFrame b at n ≡ NodeAnswer.Refused r → nodeFrame b at n ≡ nodeAnswer b at n nodes atoms depth
+  frame-kept r e =
+      let f = node-some (firstRefusal (nodeFrameChecks b at n)) n (nodeHere b at) r e in
+      e ∙ sym (ap answer (some-before (nodeFrameChecks b at n) (nodeSizeChecks b at n nodes atoms depth) r f))
+
+  module _ (code len : ℕ) (k : NodeKnown b at n code len) where
+    later : firstRefusal (nodeFrameChecks b at n ++ nodeSizeChecks b at n nodes atoms depth) ≡ firstRefusal (nodeSizeChecks b at n nodes atoms depth)
+    later = none-before (nodeFrameChecks b at n) (nodeSizeChecks b at n nodes atoms depth) (k .passed)
+
+    pub node-full : 64 ≤ nodes → NodeAnswer.Refused (refusal 5 at) ≡ nodeAnswer b at n nodes atoms depth
+    node-full h = sym (ap answer (later ∙ no-room at (ltb nodes 64) few (leb depth 16) fit (le-ltb nodes 64 h)))
+
+    large-is : (t : Bool) → ((not (isAtom (nodeOf code)) || ltb atoms 8) && leb depth 16) ≡ t → (few && leb depth 16) ≡ t
+    large-is t e = rw (k .node) at e
+
+    pub node-large : nodes < 64 → ((not (isAtom (nodeOf code)) || ltb atoms 8) && leb depth 16) ≡ false → NodeAnswer.Refused (refusal 5 at) ≡ nodeAnswer b at n nodes atoms depth
+    node-large h e = sym (ap answer (later ∙ too-large at (ltb nodes 64) few (leb depth 16) fit (lt-ltb nodes 64 h) (large-is false e)))
+
+    left : (t : Bool) → nodes < 64 → ((not (isAtom (nodeOf code)) || ltb atoms 8) && leb depth 16) ≡ true → fit ≡ t
+        → nodeAnswer b at n nodes atoms depth ≡ answer (unlessPassed t (refusal 4 at) none)
+    left t h e f = ap answer (later ∙ left-fit at (ltb nodes 64) few (leb depth 16) fit (lt-ltb nodes 64 h) (large-is true e))
+        ∙ ap (λ (u : Bool). answer (unlessPassed u (refusal 4 at) none)) f
+
+    module _ (h : nodes < 64) (e : ((not (isAtom (nodeOf code)) || ltb atoms 8) && leb depth 16) ≡ true) where
+      taken : fit ≡ true → nodeFrame b at n ≡ nodeAnswer b at n nodes atoms depth
+      taken f = ap answer (k .passed) ∙ sym (left true h e f)
+
+      pub node-plain : isAtom (nodeOf code) ≡ false → nodeFrame b at n ≡ nodeAnswer b at n nodes atoms depth
+      node-plain a = let i : isAtom (nodeHere b at) ≡ false = ap isAtom (sym (k .node)) ∙ a in taken (rw i)
+
+      module _ (a : isAtom (nodeOf code) ≡ true) where
+        atom-here : isAtom (nodeHere b at) ≡ true
+        atom-here = ap isAtom (sym (k .node)) ∙ a
+
+        pub atom-length : len ≡ 4 * (n + 1)
+        atom-length = k .lenIs ∙ rw atom-here
+
+        fit-is : (t : Bool) → numbersFit (numbersAt n (partOf b (at + 4) len) 0) (numberAt (partOf b (at + 4) len) (4 * n)) ≡ t → fit ≡ t
+        fit-is t f =
+            let l = atom-length in
+            let p = part-numbers b (at + 4) len (k .within) n (omega arith) in
+            let q = part-number b (at + 4) len (k .within) (4 * n) (omega arith) in
+            rw (atom-here, sym p, sym q) f
+
+        pub node-atom : numbersFit (numbersAt n (partOf b (at + 4) len) 0) (numberAt (partOf b (at + 4) len) (4 * n)) ≡ true
+            → nodeFrame b at n ≡ nodeAnswer b at n nodes atoms depth
+        node-atom f = taken (fit-is true f)
+
+        pub node-beyond : numbersFit (numbersAt n (partOf b (at + 4) len) 0) (numberAt (partOf b (at + 4) len) (4 * n)) ≡ false
+            → NodeAnswer.Refused (refusal 4 at) ≡ nodeAnswer b at n nodes atoms depth
+        node-beyond f = sym (left false h e (fit-is false f))

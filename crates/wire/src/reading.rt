@@ -1,0 +1,226 @@
+// The checks at each record of a question, in document 01's order, and a node noted in the question.
+ghost use mathlib.Core.Path.{_≡_};
+ghost use mathlib.Core.Bool.{not, _&&_, _||_};
+ghost use Prim.Native.Nat.{_+_, _*_, _≤_, _<_};
+ghost use lib.ListN.{length};
+ghost use lib.Dec.{leb, ltb};
+ghost use Rattle.scope.specs.Question.{nodeOf, codeOf};
+ghost use Rattle.scope.specs.Wire.{nodeOfKind, bodyLength};
+ghost use Rattle.wire.specs.Steps.{frameAnswer, headAnswer, nodeFrame, nodeAnswer, Notable, notedBody};
+use crate::body;
+use crate::numbers::numbers_fit;
+use crate::numbers::with_numbers;
+use crate::records::HeaderAnswer;
+use crate::records::count_of;
+use crate::records::header_at;
+use crate::shape::is_atom;
+use scope::Question;
+use scope::Refusal;
+use whole::number_at;
+
+// Whether a record of a known kind and length is there.
+pub enum FrameAnswer {
+    There,
+    Refused(Refusal),
+}
+
+// The head: n.
+pub enum HeadAnswer {
+    Head(u8),
+    Refused(Refusal),
+}
+
+// A node: its code, and the length of its body.
+pub enum NodeAnswer {
+    Node { code: u8, len: usize },
+    Refused(Refusal),
+}
+
+pub fn frame_at(bytes: &[u8], at: usize, due: u16, size: usize) -> FrameAnswer
+    ensures { λ r. ⌜ r ≡ frameAnswer (now (bytes .entry)) at due size ⌝ }
+{
+    let HeaderAnswer::Header { kind, len } = header_at(bytes, at) else {
+        return FrameAnswer::Refused(Refusal {
+            number: 1,
+            place: at,
+        });
+    };
+    if kind != due {
+        return FrameAnswer::Refused(Refusal {
+            number: 2,
+            place: at,
+        });
+    }
+    if len != size {
+        return FrameAnswer::Refused(Refusal {
+            number: 3,
+            place: at,
+        });
+    }
+    if bytes.len() - at - 4 < len {
+        return FrameAnswer::Refused(Refusal {
+            number: 1,
+            place: at,
+        });
+    }
+    FrameAnswer::There
+}
+
+pub fn head_at(bytes: &[u8], at: usize) -> HeadAnswer
+    ensures { λ r. ⌜ r ≡ headAnswer (now (bytes .entry)) at ⌝ }
+{
+    match frame_at(bytes, at, 0x0001, 1) {
+        FrameAnswer::Refused(refusal) => HeadAnswer::Refused(refusal),
+        FrameAnswer::There => {
+            let n = bytes[at + 4];
+            if n < 1 {
+                return HeadAnswer::Refused(Refusal {
+                    number: 4,
+                    place: at,
+                });
+            }
+            if Question::VARIABLES < count_of(n) {
+                return HeadAnswer::Refused(Refusal {
+                    number: 4,
+                    place: at,
+                });
+            }
+            HeadAnswer::Head(n)
+        }
+    }
+}
+
+pub fn code_of_kind(kind: u16) -> u8
+    ensures { λ r. ⌜ r ≡ codeOf (nodeOfKind kind) ⌝ }
+{
+    match kind {
+        0x0010 => 1,
+        0x0011 => 2,
+        0x0020 => 3,
+        0x0021 => 4,
+        0x0022 => 5,
+        _ => 0,
+    }
+}
+
+pub fn body_length(n: usize, code: u8) -> usize
+    requires { ⌜ n ≤ 6 ⌝ }
+    ensures { λ r. ⌜ r ≡ bodyLength n (nodeOf code) ⌝ }
+{
+    if is_atom(code) { 4 * (n + 1) } else { 0 }
+}
+
+// A node's kind, length and body.
+pub fn node_frame(bytes: &[u8], at: usize, n: usize) -> NodeAnswer
+    requires { ⌜ n ≤ 6 ⌝ }
+    ensures { λ r. ⌜ r ≡ nodeFrame (now (bytes .entry)) at n ⌝ }
+{
+    let HeaderAnswer::Header { kind, len } = header_at(bytes, at) else {
+        return NodeAnswer::Refused(Refusal {
+            number: 1,
+            place: at,
+        });
+    };
+    let code = code_of_kind(kind);
+    if code == 0 {
+        return NodeAnswer::Refused(Refusal {
+            number: 2,
+            place: at,
+        });
+    }
+    if len != body_length(n, code) {
+        return NodeAnswer::Refused(Refusal {
+            number: 3,
+            place: at,
+        });
+    }
+    if bytes.len() - at - 4 < len {
+        return NodeAnswer::Refused(Refusal {
+            number: 1,
+            place: at,
+        });
+    }
+    NodeAnswer::Node { code, len }
+}
+
+// No ninth atom, and no depth 17.
+pub fn sized(atom: bool, atoms: usize, depth: usize) -> bool
+    ensures { λ r. ⌜ r ≡ ((not atom || ltb atoms 8) && leb depth 16) ⌝ }
+{
+    if atom {
+        if Question::ATOMS <= atoms {
+            return false;
+        }
+    }
+    depth <= Question::DEPTH
+}
+
+// A node with all its checks.
+pub fn node_at(
+    bytes: &[u8],
+    at: usize,
+    n: usize,
+    nodes: usize,
+    atoms: usize,
+    depth: usize,
+) -> NodeAnswer
+    requires { ⌜ n ≤ 6 ⌝ }
+    ensures { λ r. ⌜ r ≡ nodeAnswer (now (bytes .entry)) at n nodes atoms depth ⌝ }
+{
+    let frame = node_frame(bytes, at, n);
+    let NodeAnswer::Node { code, len } = frame else {
+        return frame;
+    };
+    let atom = is_atom(code);
+    if Question::NODES <= nodes {
+        return NodeAnswer::Refused(Refusal {
+            number: 5,
+            place: at,
+        });
+    }
+    if !sized(atom, atoms, depth) {
+        return NodeAnswer::Refused(Refusal {
+            number: 5,
+            place: at,
+        });
+    }
+    if !atom {
+        return frame;
+    }
+    if numbers_fit(body(bytes, at + 4, len), n) {
+        return frame;
+    }
+    NodeAnswer::Refused(Refusal {
+        number: 4,
+        place: at,
+    })
+}
+
+// A node noted in the question; its numbers where it is an atom.
+pub fn noted(question: Question, code: u8, nodes: usize, atoms: usize, body: &[u8]) -> Question
+    requires { ⌜ Notable question code nodes atoms (now body) ⌝ }
+    ensures { λ r. ⌜ r ≡ notedBody question code nodes atoms (now (body .entry)) ⌝ }
+{
+    let small = question.n;
+    let n = count_of(small);
+    let mut codes = question.codes;
+    let coefficients = question.coefficients;
+    let mut constants = question.constants;
+    codes[nodes] = code;
+    if !is_atom(code) {
+        return Question {
+            n: small,
+            codes,
+            coefficients,
+            constants,
+        };
+    }
+    constants[atoms] = number_at(body, 4 * n);
+    let all = with_numbers(coefficients, 6 * atoms, body, n);
+    Question {
+        n: small,
+        codes,
+        coefficients: all,
+        constants,
+    }
+}
