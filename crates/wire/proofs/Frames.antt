@@ -164,3 +164,10 @@ none-before cs ds e = first-append cs ds ∙ ap (λ (o : Option Refusal). orElse
 
 pub some-before : (cs ds : List Check) (r : Refusal) → firstRefusal cs ≡ some r → firstRefusal (cs ++ ds) ≡ some r
 some-before cs ds r e = first-append cs ds ∙ ap (λ (o : Option Refusal). orElse o (firstRefusal ds)) e
+
+or-none : (a d : Option Refusal) → orElse a d ≡ none → (a ≡ none) × (d ≡ none)
+or-none none d e = (refl, e)
+or-none (some r) d e = let z : _≡_ {A = ℕ} 0 1 = cc in absurd (omega arith)
+
+pub none-both : (cs ds : List Check) → firstRefusal (cs ++ ds) ≡ none → (firstRefusal cs ≡ none) × (firstRefusal ds ≡ none)
+none-both cs ds e = or-none (firstRefusal cs) (firstRefusal ds) (sym (first-append cs ds) ∙ e)

@@ -3,6 +3,8 @@ pub mod Frames
 pub mod Stretches
 pub mod Nodes
 pub mod Noting
+pub mod Turns
 pub mod Codes
 pub mod Shapes
 pub mod Bodies
+pub mod Wholes

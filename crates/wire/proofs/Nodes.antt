@@ -5,21 +5,23 @@ use mathlib.Core.Option.{Option, none, some}
 use mathlib.Core.List.{List, [], _∷_, _++_}
 use Prim.Native.Nat.{ℕ, _+_, _*_, _<_, _≤_}
 use native.Mathlib.Omega.{arith}
-use borrow.Author.Tests.{le-leb, lt-leb, le-ltb, lt-ltb, leb-true, eqb-true}
+use borrow.Author.Tests.{le-leb, lt-leb, le-ltb, lt-ltb, leb-true, ltb-true, eqb-true}
 use lib.ListN.{length}
 use lib.Dec.{leb, ltb, eqb}
+use Rattle.scope.specs.declared.Question.{Question}
 use Rattle.scope.specs.declared.Refusal.{Refusal}
 use Rattle.scope.specs.Sizes.{variablesFit, numbersFit}
 use Rattle.scope.specs.Question.{Node, unused, atom, equation, atMost, nodeOf, codeOf, isUnused, isAtom}
-use Rattle.scope.specs.Refusals.{Check, check, refusal, unlessPassed, firstRefusal}
-use Rattle.scope.specs.Wire.{byteAt, numberAt, numbersAt, kindAt, lengthAt, headerThere, bodyThere, headKind, bodyLength}
+use Rattle.scope.specs.Refusals.{Check, check, refusal, unlessPassed, firstRefusal, Progress, stopped, ended, orStopped}
+use Rattle.scope.specs.Wire.{Reading, Ended, byteAt, numberAt, numbersAt, kindAt, lengthAt, headerThere, bodyThere, headKind, endKind, bodyLength}
 use Rattle.wire.specs.Steps.{frameChecks, frameOr, frameAnswer, headChecks, headOr, headAnswer, nodeHere, nodeFrameChecks, nodeSizeChecks, nodeOr, nodeFrame, nodeAnswer, partOf}
 use Rattle.wire.specs.declared.reading.FrameAnswer.{FrameAnswer}
 use Rattle.wire.specs.declared.reading.HeadAnswer.{HeadAnswer}
 use Rattle.wire.specs.declared.reading.NodeAnswer.{NodeAnswer}
 use Rattle.wire.proofs.Codes.{node-of-code, code-small}
 use Rattle.wire.proofs.Stretches.{part-number, part-numbers}
-use Rattle.wire.proofs.Frames.{Framed, framed, none-before, some-before}
+use Rattle.wire.specs.Answers.{endChecks, endFrom}
+use Rattle.wire.proofs.Frames.{four, Framed, framed, none-before, some-before, none-both}
 
 -- ---- a frame's answer says what was refused
 
@@ -72,6 +74,32 @@ variables-many n h k = rw (le-leb 1 n h, lt-leb n 6 k)
 pub variables-fit : (n : ℕ) → 1 ≤ n → n ≤ 6 → variablesFit n ≡ true
 variables-fit n h k = rw (le-leb 1 n h, le-leb n 6 k)
 
+-- ---- the end: its empty body is never cut
+
+three : (at : ℕ) (header kind exact body : Bool) → (header ≡ true → exact ≡ true → body ≡ true)
+    → firstRefusal (check 1 at header ∷ check 2 at kind ∷ check 3 at exact ∷ []) ≡ firstRefusal (four at header kind exact body)
+unfolding firstRefusal
+three at true true true body h = rw (h refl refl)
+three at true true false body h = refl
+three at true false exact body h = refl
+three at false kind exact body h = refl
+
+module _ (b : List ℕ) (at : ℕ) (q : Question) where
+  never-cut : headerThere b at ≡ true → eqb (lengthAt b at) 0 ≡ true → bodyThere b at ≡ true
+  never-cut h l = le-leb (at + 4 + lengthAt b at) (length b) (omega (arith, eqb-true (lengthAt b at) 0 l, leb-true (at + 4) (length b) h))
+
+  end-checks : firstRefusal (endChecks b at) ≡ firstRefusal (frameChecks b at endKind 0)
+  end-checks = three at (headerThere b at) (eqb (kindAt b at) endKind) (eqb (lengthAt b at) 0) (bodyThere b at) never-cut
+
+  abbrev closed : Option Refusal → Progress Reading Ended
+  closed o = orStopped o (ended (record { question = q; next = at + 4 }))
+
+  pub end-refused : (r : Refusal) → frameAnswer b at endKind 0 ≡ FrameAnswer.Refused r → stopped r ≡ endFrom b at q
+  end-refused r e = sym (ap closed (end-checks ∙ frame-failed b at endKind 0 r e))
+
+  pub end-there : frameAnswer b at endKind 0 ≡ FrameAnswer.There → ended (record { question = q; next = at + 4 }) ≡ endFrom b at q
+  end-there e = sym (ap closed (end-checks ∙ frame-passed b at endKind 0 e))
+
 -- ---- a node
 
 node-none : (o : Option Refusal) (n : ℕ) (x : Node) (code len : ℕ) → nodeOr o n x ≡ NodeAnswer.Node code len → (o ≡ none) × ((code ≡ codeOf x) × (len ≡ bodyLength n x))
@@ -100,6 +128,13 @@ unfolding firstRefusal
 left-fit at room true shallow fit r e = rw (r, e)
 left-fit at room false shallow fit r e = let z : _≡_ {A = ℕ} 0 1 = cc in absurd (omega arith)
 
+size-facts : (at : ℕ) (room few shallow fit : Bool) → firstRefusal (sizes at room few shallow fit) ≡ none → (room ≡ true) × ((few ≡ true) × (shallow ≡ true))
+unfolding firstRefusal
+size-facts at true true true fit e = (refl, (refl, refl))
+size-facts at false few shallow fit e = let z : _≡_ {A = ℕ} 0 1 = cc in absurd (omega arith)
+size-facts at true false shallow fit e = let z : _≡_ {A = ℕ} 0 1 = cc in absurd (omega arith)
+size-facts at true true false fit e = let z : _≡_ {A = ℕ} 0 1 = cc in absurd (omega arith)
+
 -- a node whose frame is there
 pub record NodeKnown (b : List ℕ) (at n code len : ℕ) : Type 0 where
   pub passed : firstRefusal (nodeFrameChecks b at n) ≡ none
@@ -118,10 +153,10 @@ used-code Node.not e = omega arith
 used-code Node.and e = omega arith
 used-code Node.or e = omega arith
 
-pub known : (b : List ℕ) (at n code len : ℕ) → nodeFrame b at n ≡ NodeAnswer.Node code len → NodeKnown b at n code len
-known b at n code len e =
+by-frame : (b : List ℕ) (at n code len : ℕ) → (firstRefusal (nodeFrameChecks b at n) ≡ none) × ((code ≡ codeOf (nodeHere b at)) × (len ≡ bodyLength n (nodeHere b at)))
+    → NodeKnown b at n code len
+by-frame b at n code len h =
     let x = nodeHere b at in
-    let h = node-none (firstRefusal (nodeFrameChecks b at n)) n x code len e in
     let f = framed at (headerThere b at) (not (isUnused x)) (eqb (lengthAt b at) (bodyLength n x)) (bodyThere b at) (h .0) in
     record {
       passed = h .0;
@@ -132,6 +167,45 @@ known b at n code len e =
       used = rw (h .1 .0) (used-code x (f .kind-due));
       small = rw (h .1 .0) (code-small x);
     }
+
+pub known : (b : List ℕ) (at n code len : ℕ) → nodeFrame b at n ≡ NodeAnswer.Node code len → NodeKnown b at n code len
+known b at n code len e = by-frame b at n code len (node-none (firstRefusal (nodeFrameChecks b at n)) n (nodeHere b at) code len e)
+
+pub atom-size : (b : List ℕ) (at n code len : ℕ) → NodeKnown b at n code len → isAtom (nodeOf code) ≡ true → len ≡ 4 * (n + 1)
+atom-size b at n code len k a = let i : isAtom (nodeHere b at) ≡ true = ap isAtom (sym (k .node)) ∙ a in k .lenIs ∙ rw i
+
+-- a node that passed every check
+pub record NodeTaken (b : List ℕ) (at n nodes atoms depth code len : ℕ) : Type 0 where
+  pub known : NodeKnown b at n code len
+  pub passed : firstRefusal (nodeFrameChecks b at n ++ nodeSizeChecks b at n nodes atoms depth) ≡ none
+  pub room : nodes < 64
+  pub few : isAtom (nodeOf code) ≡ true → atoms < 8
+  pub shallow : depth ≤ 16
+
+few-atoms : (t : Bool) (atoms : ℕ) → (not t || ltb atoms 8) ≡ true → t ≡ true → atoms < 8
+few-atoms true atoms e a = ltb-true atoms 8 e
+few-atoms false atoms e a = let z : _≡_ {A = ℕ} 0 1 = cc in absurd (omega arith)
+
+pub node-taken : (b : List ℕ) (at n nodes atoms depth code len : ℕ) → nodeAnswer b at n nodes atoms depth ≡ NodeAnswer.Node code len → NodeTaken b at n nodes atoms depth code len
+node-taken b at n nodes atoms depth code len e =
+    let x = nodeHere b at in
+    let cs = nodeFrameChecks b at n in
+    let ds = nodeSizeChecks b at n nodes atoms depth in
+    let h = node-none (firstRefusal (cs ++ ds)) n x code len e in
+    let g = none-both cs ds (h .0) in
+    let k = by-frame b at n code len (g .0, h .1) in
+    let f = size-facts at (ltb nodes 64) (not (isAtom x) || ltb atoms 8) (leb depth 16) _ (g .1) in
+    record {
+      known = k;
+      passed = h .0;
+      room = ltb-true nodes 64 (f .0);
+      few = λ a. few-atoms (isAtom x) atoms (f .1 .0) (ap isAtom (sym (k .node)) ∙ a);
+      shallow = leb-true depth 16 (f .1 .1);
+    }
+
+pub node-refused : (b : List ℕ) (at n nodes atoms depth : ℕ) (r : Refusal) → nodeAnswer b at n nodes atoms depth ≡ NodeAnswer.Refused r
+    → firstRefusal (nodeFrameChecks b at n ++ nodeSizeChecks b at n nodes atoms depth) ≡ some r
+node-refused b at n nodes atoms depth r e = node-some (firstRefusal (nodeFrameChecks b at n ++ nodeSizeChecks b at n nodes atoms depth)) n (nodeHere b at) r e
 
 module _ (b : List ℕ) (at n nodes atoms depth : ℕ) where
   abbrev fit : Bool
@@ -177,12 +251,9 @@ module _ (b : List ℕ) (at n nodes atoms depth : ℕ) where
         atom-here : isAtom (nodeHere b at) ≡ true
         atom-here = ap isAtom (sym (k .node)) ∙ a
 
-        pub atom-length : len ≡ 4 * (n + 1)
-        atom-length = k .lenIs ∙ rw atom-here
-
         fit-is : (t : Bool) → numbersFit (numbersAt n (partOf b (at + 4) len) 0) (numberAt (partOf b (at + 4) len) (4 * n)) ≡ t → fit ≡ t
         fit-is t f =
-            let l = atom-length in
+            let l = atom-size b at n code len k a in
             let p = part-numbers b (at + 4) len (k .within) n (omega arith) in
             let q = part-number b (at + 4) len (k .within) (4 * n) (omega arith) in
             rw (atom-here, sym p, sym q) f

@@ -1,17 +1,34 @@
 // Questions as bytes: records, reading a question whole or from a place on, and writing one, as document 01 has them.
 ghost use mathlib.Core.Path.{_≡_};
-ghost use Rattle.scope.specs.Wire.{recordAt};
+ghost use Prim.Native.Nat.{_≤_};
+ghost use lib.ListN.{length};
+ghost use Rattle.scope.specs.Refusals.{stopped};
+ghost use Rattle.scope.specs.Wire.{recordAt, readFrom, readHeld};
 ghost use Rattle.wire.specs.Steps.{partOf};
+ghost use Rattle.wire.specs.Answers.{partRead, headed, formulaRead, endFrom};
 
 mod numbers;
 mod reading;
 mod records;
 mod shape;
 
+use reading::FrameAnswer;
+use reading::HeadAnswer;
+use reading::NodeAnswer;
+use reading::frame_at;
+use reading::head_at;
+use reading::node_at;
+use reading::noted;
 use records::HeaderAnswer;
+use records::count_of;
 use records::header_at;
+use scope::Held;
+use scope::Question;
+use scope::ReadAnswer;
 use scope::RecordAnswer;
 use scope::Refusal;
+use shape::grown;
+use shape::unread;
 
 pub fn record_at(bytes: &[u8], at: usize) -> RecordAnswer
     ensures { λ r. ⌜ r ≡ recordAt (now (bytes .entry)) at ⌝ }
@@ -50,4 +67,108 @@ pub fn body<'a>(bytes: &'a [u8], start: usize, len: usize) -> &'a [u8]
     } else {
         &bytes[..0]
     }
+}
+
+// What reading from a place gives: its answer, the question, which is empty where it was refused, and the place after the end record.
+pub struct ReadPart {
+    pub answer: ReadAnswer,
+    pub question: Question,
+    pub next: usize,
+}
+
+fn refused_part(refusal: Refusal) -> ReadPart
+    ensures { λ r. ⌜ r ≡ partRead (stopped refusal) ⌝ }
+{
+    let next = refusal.place;
+    let question = Question::empty();
+    let answer = ReadAnswer::Refused(refusal);
+    ReadPart {
+        answer,
+        question,
+        next,
+    }
+}
+
+fn end_from(bytes: &[u8], at: usize, question: Question) -> ReadPart
+    ensures { λ r. ⌜ r ≡ partRead (endFrom (now (bytes .entry)) at question) ⌝ }
+{
+    match frame_at(bytes, at, 0x00FF, 0) {
+        FrameAnswer::Refused(refusal) => refused_part(refusal),
+        FrameAnswer::There => {
+            let answer = ReadAnswer::Accepted;
+            ReadPart {
+                answer,
+                question,
+                next: at + 4,
+            }
+        }
+    }
+}
+
+fn with_head(n: u8) -> Question
+    ensures { λ r. ⌜ r ≡ headed n ⌝ }
+{
+    Question {
+        n,
+        codes: [0u8; 64],
+        coefficients: [0i32; 48],
+        constants: [0i32; 8],
+    }
+}
+
+fn formula_from(bytes: &[u8], at: usize, n: u8) -> ReadPart
+    requires { ⌜ (n ≤ 6) × (at ≤ length (now bytes)) ⌝ }
+    ensures { λ r. ⌜ r ≡ partRead (formulaRead (now (bytes .entry)) n at) ⌝ }
+{
+    let count = count_of(n);
+    let mut question = with_head(n);
+    let mut shape = unread();
+    let mut place = at;
+    while shape.top < 66 {
+        let top = shape.top;
+        let nodes = shape.nodes;
+        let atoms = shape.atoms;
+        let depth = count_of(shape.due[top]);
+        match node_at(bytes, place, count, nodes, atoms, depth) {
+            NodeAnswer::Refused(refusal) => return refused_part(refusal),
+            NodeAnswer::Node { code, len } => {
+                question = noted(question, code, nodes, atoms, body(bytes, place + 4, len));
+                shape = grown(shape, code);
+                place = place + 4 + len;
+            }
+        }
+    }
+    end_from(bytes, place, question)
+}
+
+pub fn read_from(bytes: &[u8], at: usize) -> ReadPart
+    ensures { λ r. ⌜ r ≡ partRead (readFrom (now (bytes .entry)) at) ⌝ }
+{
+    match head_at(bytes, at) {
+        HeadAnswer::Refused(refusal) => refused_part(refusal),
+        HeadAnswer::Head(n) => formula_from(bytes, at + 5, n),
+    }
+}
+
+pub fn read(bytes: &[u8]) -> Held
+    ensures { λ r. ⌜ r ≡ readHeld (now (bytes .entry)) ⌝ }
+{
+    let part = read_from(bytes, 0);
+    let answer = part.answer;
+    let next = part.next;
+    let question = part.question;
+    if let ReadAnswer::Accepted = answer {
+        if next < bytes.len() {
+            let left = ReadAnswer::Refused(Refusal {
+                number: 6,
+                place: next,
+            });
+            let empty = Question::empty();
+            return Held {
+                answer: left,
+                question: empty,
+            };
+        }
+    }
+    Held { answer, question }
 }

@@ -14,7 +14,7 @@ use mathlib.Core.List.{List}
 use Rattle.wire.specs.Steps.{partOf, nodeFrame}
 use Rattle.wire.specs.declared.reading.NodeAnswer.{NodeAnswer}
 use Rattle.wire.proofs.Stretches.{part-length}
-use Rattle.wire.proofs.Nodes.{NodeKnown, known, frame-kept, node-full, node-large, node-plain, atom-length, node-atom, node-beyond}
+use Rattle.wire.proofs.Nodes.{NodeKnown, known, frame-kept, node-full, node-large, node-plain, atom-size, node-atom, node-beyond}
 use borrow.Author.Needs.{needs}
 use Rattle.wire.proofs.reading.node_at.Statement.{statement}
 use Rattle.wire.proofs.reading.node_at.Tie as tie
@@ -34,7 +34,7 @@ atom : (c : tie.Else3) → isAtom (nodeOf (c .before .before .before .before .be
 atom c = sym (c .before .before .before .before .is-atom .ensures) ∙ not-false _ (c .if3 .left)
 
 exact : (c : tie.Else3) → c .before .before .before .before .before .before .frame .given .0 .1 .0 ≡ 4 * (c .before .before .before .before .before .before .before .before .before .before .args .n + 1)
-exact c = atom-length (now (c .before .before .before .before .before .before .before .before .before .before .args .bytes)) (c .before .before .before .before .before .before .before .before .before .before .args .at) (c .before .before .before .before .before .before .before .before .before .before .args .n) (c .before .before .before .before .before .before .before .before .before .before .args .nodes) (c .before .before .before .before .before .before .before .before .before .before .args .atoms) (c .before .before .before .before .before .before .before .before .before .before .args .depth) _ _ (node (c .before .before .before .before .before)) (c .before .before .before .if1 .left) (large (c .before .before) true (not-false _ (c .before .if2 .left))) (atom c)
+exact c = atom-size _ _ _ _ _ (node (c .before .before .before .before .before)) (atom c)
 
 fit : (c : tie.After-numbers-fit) (t : Bool) → c .numbers-fit .result ≡ t
     → numbersFit (numbersAt (c .before .before .before .before .before .before .before .before .before .before .before .before .args .n) (partOf (now (c .before .before .before .before .before .before .before .before .before .before .before .before .args .bytes)) (c .before .before .before .before .before .before .before .before .before .before .before .before .args .at + 4) (c .before .before .before .before .before .before .before .before .frame .given .0 .1 .0)) 0)
