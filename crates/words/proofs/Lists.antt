@@ -1,0 +1,76 @@
+-- Tests of every element, from an index on.
+use Prim.Native.Nat.{ℕ, zero, suc, _+_, _≤_, _<_}
+use native.Mathlib.Nat.{add-zero, add-suc}
+use native.Mathlib.Numerals.{add-one}
+use native.Mathlib.Omega.{arith}
+use mathlib.Core.Path.{_≡_, refl, sym, ap, _∙_}
+use mathlib.Core.Bool.{Bool, true, false, not, _&&_}
+use mathlib.Core.List.{List, [], _∷_}
+use lib.ListN.{length, getD, drop, drop-of-length-le}
+use lib.Seq.{drop-cons}
+use lib.Dec.{leb}
+use borrow.Author.Tests.{not-true, not-false, leb-true}
+use Rattle.scope.specs.Whole.{all, allFrom}
+
+-- ---- a test b that a call made as t, and that a branch took apart by `!t`
+
+pub failed : {t b : Bool} → t ≡ b → not t ≡ true → b ≡ false
+failed {t} e h = sym e ∙ not-true t h
+
+pub passed : {t b : Bool} → t ≡ b → not t ≡ false → b ≡ true
+passed {t} e h = sym e ∙ not-false t h
+
+pub both : (a b : Bool) → a && b ≡ true → (a ≡ true) × (b ≡ true)
+both true b e = (refl, e)
+both false b e = let z : _≡_ {A = ℕ} 0 1 = cc in absurd (omega arith)
+
+pub from-one : (k most : ℕ) → leb 1 k && leb k most ≡ true → (1 ≤ k) × (k ≤ most)
+from-one k most e = (leb-true 1 k (both (leb 1 k) (leb k most) e .0), leb-true k most (both (leb 1 k) (leb k most) e .1))
+
+-- ---- from an index on
+
+module _ (f : ℕ → Bool) (l : List ℕ) (i : ℕ) where
+  all-at : i < length l → all f (drop i l) ≡ f (getD l i 0) && all f (drop (i + 1) l)
+  unfolding all
+  all-at h = rw (add-one, drop-cons l i 0)
+
+  pub all-more : i < length l → f (getD l i 0) ≡ true → all f (drop i l) ≡ all f (drop (i + 1) l)
+  all-more h e = all-at h ∙ ap (λ (b : Bool). b && all f (drop (i + 1) l)) e
+
+  pub all-fails : i < length l → f (getD l i 0) ≡ false → all f (drop i l) ≡ false
+  all-fails h e = all-at h ∙ ap (λ (b : Bool). b && all f (drop (i + 1) l)) e
+
+  pub all-done : length l ≤ i → all f (drop i l) ≡ true
+  unfolding all
+  all-done h = rw (drop-of-length-le l {i = i} h)
+
+module _ (f : ℕ → ℕ → Bool) (l : List ℕ) (i : ℕ) where
+  allFrom-at : i < length l → allFrom f i (drop i l) ≡ f i (getD l i 0) && allFrom f (i + 1) (drop (i + 1) l)
+  unfolding allFrom
+  allFrom-at h = rw (add-one, drop-cons l i 0)
+
+  pub allFrom-more : i < length l → f i (getD l i 0) ≡ true → allFrom f i (drop i l) ≡ allFrom f (i + 1) (drop (i + 1) l)
+  allFrom-more h e = allFrom-at h ∙ ap (λ (b : Bool). b && allFrom f (i + 1) (drop (i + 1) l)) e
+
+  pub allFrom-fails : i < length l → f i (getD l i 0) ≡ false → allFrom f i (drop i l) ≡ false
+  allFrom-fails h e = allFrom-at h ∙ ap (λ (b : Bool). b && allFrom f (i + 1) (drop (i + 1) l)) e
+
+  pub allFrom-done : length l ≤ i → allFrom f i (drop i l) ≡ true
+  unfolding allFrom
+  allFrom-done h = rw (drop-of-length-le l {i = i} h)
+
+-- ---- what every element passed
+
+pub all-each : (f : ℕ → Bool) (l : List ℕ) → all f l ≡ true → (i : ℕ) → i < length l → f (getD l i 0) ≡ true
+unfolding all
+all-each f [] e i h = absurd (omega arith)
+all-each f (a ∷ l) e zero h = both (f a) (all f l) e .0
+all-each f (a ∷ l) e (suc i) h = all-each f l (both (f a) (all f l) e .1) i (omega arith)
+
+pub allFrom-each : (f : ℕ → ℕ → Bool) (k : ℕ) (l : List ℕ) → allFrom f k l ≡ true → (i : ℕ) → i < length l → f (k + i) (getD l i 0) ≡ true
+unfolding allFrom
+allFrom-each f k [] e i h = absurd (omega arith)
+allFrom-each f k (a ∷ l) e zero h = rw (add-zero k) (both (f k a) (allFrom f (suc k) l) e .0)
+allFrom-each f k (a ∷ l) e (suc i) h =
+    let n : k + suc i ≡ suc k + i = omega arith in
+    rw n (allFrom-each f (suc k) l (both (f k a) (allFrom f (suc k) l) e .1) i (omega arith))

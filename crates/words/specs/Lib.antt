@@ -1,0 +1,2 @@
+-- What `spell` and `run` ask of their parts.
+pub mod Tables
