@@ -1,3 +1,5 @@
 pub mod Lists
 pub mod Values
 pub mod Spelling
+pub mod Tables
+pub mod Running

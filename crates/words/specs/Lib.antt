@@ -1,2 +1,2 @@
--- What `spell` and `run` ask of their parts.
+-- What `run` asks of its parts.
 pub mod Tables

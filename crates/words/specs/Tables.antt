@@ -1,15 +1,12 @@
--- A table that may be run on a word: whole rows whose next states are rows, and letters that have a cell in each row.
-use Prim.Native.Nat.{ℕ, _+_, _*_, _%_, _<_}
+-- A table and a word that have passed their checks.
+use Prim.Native.Nat.{ℕ, _≤_}
 use mathlib.Core.Path.{_≡_}
+use mathlib.Core.Bool.{true}
 use mathlib.Core.List.{List}
-use lib.ListN.{length, getD}
+use Rattle.scope.specs.Words.{lettersFit}
+use Rattle.scope.specs.Running.{tableFits}
 
--- rows of a width; each cell but the first of a row is a row
-pub record Closed (width rows : ℕ) (cells : List ℕ) : Type 0 where
-  pub some : 0 < rows
-  pub whole : length cells ≡ rows * width
-  pub next : (c : ℕ) → c < length cells → (c % width ≡ 0 → ⊥) → getD cells c 0 < rows
-
--- each letter is below a number
-pub record Below (limit : ℕ) (word : List ℕ) : Type 0 where
-  pub letter : (i : ℕ) → i < length word → getD word i 0 < limit
+pub record Runs (n : ℕ) (cells word : List ℕ) : Type 0 where
+  pub small : n ≤ 6
+  pub table : tableFits n cells ≡ true
+  pub letters : lettersFit n word ≡ true
