@@ -1,0 +1,2 @@
+-- What judging asks of its parts.
+pub mod Sums
