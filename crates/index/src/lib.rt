@@ -1,7 +1,6 @@
 // The index over numbered rows of key cells: it finds the row that has a key's cells without looking at every row, so exploring is linear.
 // The rows of a bucket are chained newest first: `head` has each bucket's newest row, and `next` for each row the newest before it.
 ghost use mathlib.Core.Path.{_≡_};
-ghost use mathlib.Core.Bool.{true};
 ghost use Prim.Native.Nat.{_+_, _*_, _≤_, _<_};
 ghost use lib.ListN.{length, getD, set, take, replicate};
 ghost use lib.Seq.{paste};
