@@ -1,4 +1,5 @@
 // What a letter does to a key row: the letters' sums, worked once for a question, and the row's target and worths.
+use scope::Question;
 use whole::floor_half;
 ghost use mathlib.Core.Path.{_≡_};
 ghost use mathlib.Core.Bool.{false};
@@ -41,7 +42,7 @@ pub fn step_row(
     requires { ⌜ Stepping m (now sums) letter (now keys) at ⌝ }
     ensures { λ r. ⌜ r ≡ padded (pos 0) (stepCells (now (kinds .entry)) m (now (sums .entry)) letter (now (keys .entry)) at) ⌝ }
 {
-    let base = 8 * letter;
+    let base = Question::ATOMS * letter;
     let mut row = [0i32; 8];
     let mut i = 0;
     while i < m {
@@ -85,7 +86,7 @@ pub fn kinds_of(codes: &[u8; 64]) -> Kinds
     let mut kinds = [0u8; 8];
     let mut m = 0;
     let mut i = 0;
-    while i < 64 {
+    while i < Question::NODES {
         let code = codes[i];
         if 0 < code {
             if code < 3 {
@@ -129,13 +130,18 @@ pub fn letter_sums(n: usize, m: usize, coefficients: &[i32; 48]) -> [i32; 512]
     requires { ⌜ Coefficients n m (now coefficients) ⌝ }
     ensures { λ r. ⌜ Sums n m (now (coefficients .entry)) r ⌝ }
 {
-    let end = 8 * letters(n);
+    let end = Question::ATOMS * letters(n);
     let mut sums = [0i32; 512];
     let mut k = 0;
     while k < end {
-        let i = k % 8;
+        let i = k % Question::ATOMS;
         if i < m {
-            sums[k] = sum_at(n, coefficients, 6 * i, k / 8);
+            sums[k] = sum_at(
+                n,
+                coefficients,
+                Question::VARIABLES * i,
+                k / Question::ATOMS,
+            );
         }
         k += 1;
     }
