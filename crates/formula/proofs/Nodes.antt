@@ -1,19 +1,18 @@
 -- What a part is, by the node that it starts at: a law for each way that `settle` returns.
 use Prim.Native.Nat.{ℕ, suc, _+_, _-_, _≤_, _<_}
 use native.Mathlib.Omega.{arith}
-use native.Mathlib.Numerals.{add-one}
 use native.Mathlib.Decide.{decLt}
 use mathlib.Core.Path.{_≡_, refl, sym, ap, _∙_}
 use mathlib.Core.Logic.{by-cases}
 use mathlib.Core.Bool.{Bool, true, false, not, _&&_, _||_}
 use mathlib.Core.List.{List, [], _∷_, map}
-use lib.ListN.{length, getD, drop, length-map, drop-of-length-le, List·getD-map}
-use lib.Seq.{drop-cons, getD-drop, drop-drop}
+use lib.ListN.{length, getD, drop, length-map, drop-of-length-le}
+use lib.Seq.{getD-drop, drop-drop}
 use borrow.Author.Tests.{ne-eqb}
 use Rattle.scope.specs.Question.{Kind, equation, atMost, Node, unused, atom, nodeOf}
 use Rattle.scope.specs.States.{Settled, settled}
 use Rattle.formula.specs.declared.Part.{Part}
-use Rattle.formula.specs.Parts.{Placed, Settles, meant}
+use Rattle.formula.specs.Parts.{Placed, Settles, meant, node-first}
 
 -- ---- codes
 
@@ -64,15 +63,11 @@ module _ (d : ℕ) (xs : List Node) (ws : List Bool) where
 -- ---- by places: a part of the depth left and the node's place
 
 module _ {codes : List ℕ} {worths : List Bool} {node atom : ℕ} (g : Placed codes worths node atom) where
-  node-first : (x : Node) → (node ≡ 64 → ⊥) → nodeOf (getD codes node 0) ≡ x → drop node (map nodeOf codes) ≡ x ∷ drop (node + 1) (map nodeOf codes)
-  node-first x n e =
-      let h : node < length (map nodeOf codes) = omega (arith, length-map codes nodeOf, g .codes-whole, g .node-within) in
-      drop-cons (map nodeOf codes) node unused h ∙ (λ i. (List·getD-map nodeOf codes node 0 ∙ e) i ∷ drop (sym (add-one node) i) (map nodeOf codes))
-
   opened : {depth : ℕ} (x : Node) (ws : List Bool) → (depth ≡ 0 → ⊥) → (node ≡ 64 → ⊥) → nodeOf (getD codes node 0) ≡ x → settled depth (drop node (map nodeOf codes)) ws ≡ settled (suc (depth - 1)) (x ∷ drop (node + 1) (map nodeOf codes)) ws
   opened {depth} x ws d n e =
       let h : depth ≡ suc (depth - 1) = omega arith in
-      λ i. settled (h i) (node-first x n e i) ws
+      let f : drop node (map nodeOf codes) ≡ x ∷ drop (node + 1) (map nodeOf codes) = node-first codes node (omega (arith, g .codes-whole, g .node-within)) ∙ ap (λ (y : Node). y ∷ drop (node + 1) (map nodeOf codes)) e in
+      λ i. settled (h i) (f i) ws
 
   pub too-deep : {depth : ℕ} → depth ≡ 0 → Settles codes worths node atom depth (record { truth = false; node = node; atom = atom })
   too-deep d = record {

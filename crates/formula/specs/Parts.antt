@@ -1,10 +1,13 @@
 -- A part of the formula that is settled, by places: what is left of the nodes and of the worths starts at the node and the atom after it.
-use Prim.Native.Nat.{ℕ, _≤_}
-use mathlib.Core.Path.{_≡_}
+use Prim.Native.Nat.{ℕ, _+_, _≤_, _<_}
+use native.Mathlib.Numerals.{add-one}
+use native.Mathlib.Omega.{arith}
+use mathlib.Core.Path.{_≡_, sym, _∙_}
 use mathlib.Core.Bool.{Bool}
-use mathlib.Core.List.{List, map}
-use lib.ListN.{length, drop}
-use Rattle.scope.specs.Question.{nodeOf}
+use mathlib.Core.List.{List, _∷_, map}
+use lib.ListN.{length, getD, drop, length-map, List·getD-map}
+use lib.Seq.{drop-cons}
+use Rattle.scope.specs.Question.{unused, nodeOf}
 use Rattle.scope.specs.States.{Settled, settled}
 use Rattle.formula.specs.declared.Part.{Part}
 
@@ -24,3 +27,9 @@ pub record Settles (codes : List ℕ) (worths : List Bool) (node atom depth : �
   pub part : settled depth (drop node (map nodeOf codes)) (drop atom worths) ≡ meant codes worths p
   pub node-after : p .node ≤ 64
   pub atom-after : p .atom ≤ 8
+
+-- the nodes from a place on
+pub node-first : (codes : List ℕ) (node : ℕ) → node < length codes → drop node (map nodeOf codes) ≡ nodeOf (getD codes node 0) ∷ drop (node + 1) (map nodeOf codes)
+node-first codes node l =
+    let h : node < length (map nodeOf codes) = omega (arith, length-map codes nodeOf) in
+    drop-cons (map nodeOf codes) node unused h ∙ (λ i. List·getD-map nodeOf codes node 0 i ∷ drop (sym (add-one node) i) (map nodeOf codes))

@@ -1,1 +1,4 @@
 pub mod Products
+pub mod AtomKinds
+pub mod Noting
+pub mod Judging

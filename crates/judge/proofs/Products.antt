@@ -59,11 +59,11 @@ module _ {coefficients : List ℤ} {at : ℕ} {values : List ℕ} (h : Summable 
   rest-small : (j : ℕ) → Small (drop j row) (drop j values)
   rest-small j = record {
     coefficient = λ i l.
-      let n : j + i < length values = omega (arith, length-drop j row, row-length) in
-      rw (getD-drop j row i (pos 0), row-at (j + i) n) (h .coefficient (j + i) n);
+        let n : j + i < length values = omega (arith, length-drop j row, row-length) in
+        rw (getD-drop j row i (pos 0), row-at (j + i) n) (h .coefficient (j + i) n);
     value = λ i l.
-      let n : j + i < length values = omega (arith, length-drop j values) in
-      rw (getD-drop j values i 0) (h .value (j + i) n);
+        let n : j + i < length values = omega (arith, length-drop j values) in
+        rw (getD-drop j values i 0) (h .value (j + i) n);
   }
 
   -- the sum from a variable on fits 64 bits

@@ -1,2 +1,3 @@
 -- What judging asks of its parts.
 pub mod Sums
+pub mod Atoms

@@ -1,11 +1,21 @@
 // Judging: whether a tuple of values satisfies a question, in whole-number arithmetic.
+use formula::formula_worth;
+use scope::Question;
+use scope::Refusal;
+use scope::TruthAnswer;
 ghost use mathlib.Core.Path.{_≡_};
 ghost use Prim.Native.Nat.{ℕ, _+_, _*_, _≤_, _<_};
 ghost use lib.ListN.{length, getD};
-ghost use lib.IntN.{pos, natAbs, _*ℤ_};
+ghost use lib.IntN.{ℤ, pos, natAbs, _*ℤ_};
+ghost use lib.Dec.{leb};
+ghost use Rattle.scope.specs.Whole.{all};
 ghost use Rattle.scope.specs.Sizes.{mostCoefficient, mostValue};
-ghost use Rattle.scope.specs.States.{dot};
+ghost use Rattle.scope.specs.Question.{nodeOf, isAtom};
+ghost use Rattle.scope.specs.States.{dot, compares, satisfied};
 ghost use Rattle.judge.specs.Sums.{rowAt, Summable};
+ghost use Rattle.judge.specs.Atoms.{kindOfCode, NextAtom, asked, Judgeable, Worths};
+ghost use Rattle.theory.specs.Accepted.{WithinLimits};
+ghost use Rattle.scope.specs.Judging.{judgedQuestion};
 
 // A coefficient times a value.
 fn product(a: i32, x: u64) -> i64
@@ -28,4 +38,124 @@ fn sum_at(coefficients: &[i32; 48], at: usize, values: &[u64]) -> i64
         s = product(a, values[j]) + s;
     }
     s
+}
+
+// Whether a sum stands to a constant as an atom's kind says: an equation's code is 1.
+fn stands(code: u8, sum: i64, constant: i32) -> bool
+    ensures { λ r. ⌜ r ≡ compares (kindOfCode code) sum constant ⌝ }
+{
+    let k = constant as i64;
+    if code == 1 {
+        return sum == k;
+    }
+    sum <= k
+}
+
+// Whether an atom holds for the values, by its code and its number.
+fn holds(
+    coefficients: &[i32; 48],
+    constants: &[i32; 8],
+    code: u8,
+    atom: usize,
+    values: &[u64],
+) -> bool
+    requires { ⌜ (atom < 8) × Summable (now coefficients) (6 * atom) (now values) ⌝ }
+    ensures { λ r. ⌜ r ≡ compares (kindOfCode code) (dot (rowAt (now (coefficients .entry)) (6 * atom) (now (values .entry))) (now (values .entry))) (getD (now (constants .entry)) atom (pos 0)) ⌝ }
+{
+    let sum = sum_at(coefficients, Question::VARIABLES * atom, values);
+    let k = constants[atom];
+    stands(code, sum, k)
+}
+
+// Whether a node code is that of an atom.
+fn is_atom(code: u8) -> bool
+    ensures { λ r. ⌜ r ≡ isAtom (nodeOf code) ⌝ }
+{
+    code == 1 || code == 2
+}
+
+// The first atom's node from a node on; 64 where there is none.
+fn next_atom(codes: &[u8; 64], from: usize) -> usize
+    requires { ⌜ (length (now codes) ≡ 64) × (from ≤ 64) ⌝ }
+    ensures { λ r. ⌜ NextAtom (now (codes .entry)) from r ⌝ }
+{
+    let mut at = from;
+    while at < Question::NODES {
+        if is_atom(codes[at]) {
+            return at;
+        }
+        at += 1;
+    }
+    at
+}
+
+// What each atom is worth to the values.
+fn worths_of(
+    codes: &[u8; 64],
+    coefficients: &[i32; 48],
+    constants: &[i32; 8],
+    values: &[u64],
+) -> [bool; 8]
+    requires { ⌜ Judgeable (asked (now codes) (now coefficients) (now constants) (now values)) (now values) ⌝ }
+    ensures { λ r. ⌜ Worths (asked (now (codes .entry)) (now (coefficients .entry)) (now (constants .entry)) (now (values .entry))) (now (values .entry)) r ⌝ }
+{
+    let mut worths = [false; 8];
+    let mut atom = 0;
+    let mut at = next_atom(codes, 0);
+    while at < Question::NODES {
+        worths[atom] = holds(coefficients, constants, codes[at], atom, values);
+        atom += 1;
+        at = next_atom(codes, at + 1);
+    }
+    worths
+}
+
+// Whether the values satisfy an accepted question.
+fn satisfies(q: Question, values: &[u64]) -> bool
+    requires { ⌜ Judgeable q (now values) ⌝ }
+    ensures { λ r. ⌜ r ≡ satisfied q (now (values .entry)) ⌝ }
+{
+    let codes = q.codes;
+    let coefficients = q.coefficients;
+    let constants = q.constants;
+    let worths = worths_of(&codes, &coefficients, &constants, values);
+    formula_worth(&codes, &worths)
+}
+
+// Whether every value is within the judge's limit.
+fn values_fit(values: &[u64]) -> bool
+    ensures { λ r. ⌜ r ≡ all (λ (v : ℕ). leb v mostValue) (now (values .entry)) ⌝ }
+{
+    let mut i = 0;
+    while i < values.len() {
+        if Question::VALUE < values[i] {
+            return false;
+        }
+        i += 1;
+    }
+    true
+}
+
+fn refused(number: u8) -> TruthAnswer
+    ensures { λ r. ⌜ r ≡ TruthAnswer.Refused (record { number = number; place = 0 }) ⌝ }
+{
+    TruthAnswer::Refused(Refusal { number, place: 0 })
+}
+
+// Judges a tuple of values by an accepted question.
+fn judge_question(q: Question, values: &[u64]) -> TruthAnswer
+    requires { ⌜ WithinLimits q ⌝ }
+    ensures { λ r. ⌜ r ≡ judgedQuestion q (now (values .entry)) ⌝ }
+{
+    let n = q.n as usize;
+    if values.len() != n {
+        return refused(9);
+    }
+    if !values_fit(values) {
+        return refused(9);
+    }
+    if satisfies(q, values) {
+        return TruthAnswer::Yes;
+    }
+    TruthAnswer::No
 }

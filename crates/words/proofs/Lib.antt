@@ -1,4 +1,3 @@
-pub mod Lists
 pub mod Values
 pub mod Spelling
 pub mod Tables

@@ -16,7 +16,7 @@ use Rattle.scope.specs.Words.{lettersFit}
 use Rattle.scope.specs.Building.{tableWidth}
 use Rattle.scope.specs.Running.{tableRows, cellFits, tableFits, rowAfter}
 use Rattle.words.specs.Tables.{Runs}
-use Rattle.words.proofs.Lists.{both, all-each, allFrom-each}
+use Rattle.words.specs.Tests.{both, all-each, allFrom-each}
 
 -- ---- the check, at a width
 
@@ -77,8 +77,8 @@ at-n n cells word r =
       wide = refl;
       whole = omega (arith, div-add-mod' (length cells) (tableWidth n));
       first = leb-true 1 rows (f .0);
-      cell = λ c h. rw (zero-add c) at (allFrom-each (cellFits (tableWidth n) rows) 0 cells (g .1) c h);
-      letter = λ i h. ltb-true _ _ (all-each (λ (letter : ℕ). ltb letter (2 ^ n)) word (r .letters) i h);
+      cell = λ c h. rw (zero-add c) at (allFrom-each (cellFits (tableWidth n) rows) 0 cells 0 (g .1) c h);
+      letter = λ i h. ltb-true _ _ (all-each (λ (letter : ℕ). ltb letter (2 ^ n)) word 0 (r .letters) i h);
     }
 
 pub walk : {n width : ℕ} {cells word : List ℕ} → Runs n cells word → width ≡ tableWidth n → Walk n width (tableRows n cells) cells word

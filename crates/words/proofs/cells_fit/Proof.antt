@@ -9,7 +9,7 @@ use lib.Dec.{leb, ltb, eqb}
 use borrow.Author.Needs.{needs}
 use Rattle.scope.specs.Whole.{allFrom}
 use Rattle.scope.specs.Running.{cellFits}
-use Rattle.words.proofs.Lists.{failed, passed, allFrom-more, allFrom-fails, allFrom-done}
+use Rattle.words.specs.Tests.{failed, passed, allFrom-more, allFrom-fails, allFrom-done}
 use Rattle.words.proofs.cells_fit.Statement.{statement}
 use Rattle.words.proofs.cells_fit.Tie as tie
 
@@ -32,7 +32,7 @@ loop-holds c = (omega arith, sym (mod-eq-of-lt (c .before .pre)), refl)
 returns : tie.Need-returns Inv-loop μ-loop
 returns c =
     let l = c .before .before .before .before in
-    sym (allFrom-fails _ _ (l .loop .c) (omega arith) (failed (tested (c .before)) (c .if1 .taken))) ∙ l .loop .inv .2
+    sym (allFrom-fails _ _ 0 (l .loop .c) (omega arith) (failed (tested (c .before)) (c .if1 .taken))) ∙ l .loop .inv .2
 
 column-after-requires : tie.Need-column-after-requires Inv-loop μ-loop
 column-after-requires c κs =
@@ -45,11 +45,11 @@ loop-again c =
     let w = l .before .before .args .width in (
       omega arith,
       c .column-after .ensures ∙ ap (λ (k : ℕ). (k + 1) % w) (l .loop .inv .1) ∙ mod-add-mod (l .loop .c) w 1,
-      sym (allFrom-more _ _ (l .loop .c) (omega arith) (passed (tested (c .before .before)) (c .before .if1 .left))) ∙ l .loop .inv .2,
+      sym (allFrom-more _ _ 0 (l .loop .c) (omega arith) (passed (tested (c .before .before)) (c .before .if1 .left))) ∙ l .loop .inv .2,
     )
 
 returns-2 : tie.Need-returns-2 Inv-loop μ-loop
-returns-2 c = let l = c .before in sym (allFrom-done _ _ (l .loop .c) (omega arith)) ∙ l .loop .inv .2
+returns-2 c = let l = c .before in sym (allFrom-done _ _ 0 (l .loop .c) (omega arith)) ∙ l .loop .inv .2
 
 pub cells-fit-spec : {M : Type 1} → statement M
 cells-fit-spec =

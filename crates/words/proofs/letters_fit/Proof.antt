@@ -7,7 +7,7 @@ use lib.Dec.{ltb}
 use borrow.Author.Needs.{needs}
 use borrow.Author.Tests.{lt-ltb, le-ltb}
 use Rattle.scope.specs.Whole.{all}
-use Rattle.words.proofs.Lists.{all-more, all-fails, all-done}
+use Rattle.words.specs.Tests.{all-more, all-fails, all-done}
 use Rattle.words.proofs.letters_fit.Statement.{statement}
 use Rattle.words.proofs.letters_fit.Tie as tie
 
@@ -20,15 +20,15 @@ abbrev μ-loop : tie.MeasureT-loop
 returns : tie.Need-returns Inv-loop μ-loop
 returns c =
     let l = c .before .before .before in
-    sym (all-fails _ _ (l .loop .i) (omega arith) (le-ltb _ _ (c .if1 .taken))) ∙ l .loop .inv .1
+    sym (all-fails _ _ 0 (l .loop .i) (omega arith) (le-ltb _ _ (c .if1 .taken))) ∙ l .loop .inv .1
 
 loop-again : tie.Need-loop-again Inv-loop μ-loop
 loop-again c =
     let l = c .before .before .before in
-    (omega arith, sym (all-more _ _ (l .loop .i) (omega arith) (lt-ltb _ _ (c .if1 .left))) ∙ l .loop .inv .1)
+    (omega arith, sym (all-more _ _ 0 (l .loop .i) (omega arith) (lt-ltb _ _ (c .if1 .left))) ∙ l .loop .inv .1)
 
 returns-2 : tie.Need-returns-2 Inv-loop μ-loop
-returns-2 c = let l = c .before in sym (all-done _ _ (l .loop .i) (omega arith)) ∙ l .loop .inv .1
+returns-2 c = let l = c .before in sym (all-done _ _ 0 (l .loop .i) (omega arith)) ∙ l .loop .inv .1
 
 pub letters-fit-spec : {M : Type 1} → statement M
 letters-fit-spec =

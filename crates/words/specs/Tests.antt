@@ -1,4 +1,4 @@
--- Tests of every element, from an index on.
+-- Tests that calls make, and tests of every element of a list from an index on.
 use Prim.Native.Nat.{ℕ, zero, suc, _+_, _≤_, _<_}
 use native.Mathlib.Nat.{add-zero, add-suc}
 use native.Mathlib.Numerals.{add-one}
@@ -29,30 +29,30 @@ from-one k most e = (leb-true 1 k (both (leb 1 k) (leb k most) e .0), leb-true k
 
 -- ---- from an index on
 
-module _ (f : ℕ → Bool) (l : List ℕ) (i : ℕ) where
-  all-at : i < length l → all f (drop i l) ≡ f (getD l i 0) && all f (drop (i + 1) l)
+module _ {A : Type 0} (f : A → Bool) (l : List A) (d : A) (i : ℕ) where
+  all-at : i < length l → all f (drop i l) ≡ f (getD l i d) && all f (drop (i + 1) l)
   unfolding all
-  all-at h = rw (add-one, drop-cons l i 0)
+  all-at h = rw (add-one, drop-cons l i d)
 
-  pub all-more : i < length l → f (getD l i 0) ≡ true → all f (drop i l) ≡ all f (drop (i + 1) l)
+  pub all-more : i < length l → f (getD l i d) ≡ true → all f (drop i l) ≡ all f (drop (i + 1) l)
   all-more h e = all-at h ∙ ap (λ (b : Bool). b && all f (drop (i + 1) l)) e
 
-  pub all-fails : i < length l → f (getD l i 0) ≡ false → all f (drop i l) ≡ false
+  pub all-fails : i < length l → f (getD l i d) ≡ false → all f (drop i l) ≡ false
   all-fails h e = all-at h ∙ ap (λ (b : Bool). b && all f (drop (i + 1) l)) e
 
   pub all-done : length l ≤ i → all f (drop i l) ≡ true
   unfolding all
   all-done h = rw (drop-of-length-le l {i = i} h)
 
-module _ (f : ℕ → ℕ → Bool) (l : List ℕ) (i : ℕ) where
-  allFrom-at : i < length l → allFrom f i (drop i l) ≡ f i (getD l i 0) && allFrom f (i + 1) (drop (i + 1) l)
+module _ {A : Type 0} (f : ℕ → A → Bool) (l : List A) (d : A) (i : ℕ) where
+  allFrom-at : i < length l → allFrom f i (drop i l) ≡ f i (getD l i d) && allFrom f (i + 1) (drop (i + 1) l)
   unfolding allFrom
-  allFrom-at h = rw (add-one, drop-cons l i 0)
+  allFrom-at h = rw (add-one, drop-cons l i d)
 
-  pub allFrom-more : i < length l → f i (getD l i 0) ≡ true → allFrom f i (drop i l) ≡ allFrom f (i + 1) (drop (i + 1) l)
+  pub allFrom-more : i < length l → f i (getD l i d) ≡ true → allFrom f i (drop i l) ≡ allFrom f (i + 1) (drop (i + 1) l)
   allFrom-more h e = allFrom-at h ∙ ap (λ (b : Bool). b && allFrom f (i + 1) (drop (i + 1) l)) e
 
-  pub allFrom-fails : i < length l → f i (getD l i 0) ≡ false → allFrom f i (drop i l) ≡ false
+  pub allFrom-fails : i < length l → f i (getD l i d) ≡ false → allFrom f i (drop i l) ≡ false
   allFrom-fails h e = allFrom-at h ∙ ap (λ (b : Bool). b && allFrom f (i + 1) (drop (i + 1) l)) e
 
   pub allFrom-done : length l ≤ i → allFrom f i (drop i l) ≡ true
@@ -61,16 +61,16 @@ module _ (f : ℕ → ℕ → Bool) (l : List ℕ) (i : ℕ) where
 
 -- ---- what every element passed
 
-pub all-each : (f : ℕ → Bool) (l : List ℕ) → all f l ≡ true → (i : ℕ) → i < length l → f (getD l i 0) ≡ true
+pub all-each : {A : Type 0} (f : A → Bool) (l : List A) (d : A) → all f l ≡ true → (i : ℕ) → i < length l → f (getD l i d) ≡ true
 unfolding all
-all-each f [] e i h = absurd (omega arith)
-all-each f (a ∷ l) e zero h = both (f a) (all f l) e .0
-all-each f (a ∷ l) e (suc i) h = all-each f l (both (f a) (all f l) e .1) i (omega arith)
+all-each f [] d e i h = absurd (omega arith)
+all-each f (a ∷ l) d e zero h = both (f a) (all f l) e .0
+all-each f (a ∷ l) d e (suc i) h = all-each f l d (both (f a) (all f l) e .1) i (omega arith)
 
-pub allFrom-each : (f : ℕ → ℕ → Bool) (k : ℕ) (l : List ℕ) → allFrom f k l ≡ true → (i : ℕ) → i < length l → f (k + i) (getD l i 0) ≡ true
+pub allFrom-each : {A : Type 0} (f : ℕ → A → Bool) (k : ℕ) (l : List A) (d : A) → allFrom f k l ≡ true → (i : ℕ) → i < length l → f (k + i) (getD l i d) ≡ true
 unfolding allFrom
-allFrom-each f k [] e i h = absurd (omega arith)
-allFrom-each f k (a ∷ l) e zero h = rw (add-zero k) (both (f k a) (allFrom f (suc k) l) e .0)
-allFrom-each f k (a ∷ l) e (suc i) h =
+allFrom-each f k [] d e i h = absurd (omega arith)
+allFrom-each f k (a ∷ l) d e zero h = rw (add-zero k) (both (f k a) (allFrom f (suc k) l) e .0)
+allFrom-each f k (a ∷ l) d e (suc i) h =
     let n : k + suc i ≡ suc k + i = omega arith in
-    rw n (allFrom-each f (suc k) l (both (f k a) (allFrom f (suc k) l) e .1) i (omega arith))
+    rw n (allFrom-each f (suc k) l d (both (f k a) (allFrom f (suc k) l) e .1) i (omega arith))
