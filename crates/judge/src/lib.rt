@@ -1,6 +1,7 @@
 // Judging: whether a tuple of values satisfies a question, in whole-number arithmetic.
 use formula::formula_worth;
 use scope::Question;
+use scope::ReadAnswer;
 use scope::Refusal;
 use scope::TruthAnswer;
 ghost use mathlib.Core.Path.{_≡_};
@@ -15,7 +16,7 @@ ghost use Rattle.scope.specs.States.{dot, compares, satisfied};
 ghost use Rattle.judge.specs.Sums.{rowAt, Summable};
 ghost use Rattle.judge.specs.Atoms.{kindOfCode, NextAtom, asked, Judgeable, Worths};
 ghost use Rattle.theory.specs.Accepted.{WithinLimits};
-ghost use Rattle.scope.specs.Judging.{judgedQuestion};
+ghost use Rattle.scope.specs.Judging.{judgedQuestion, judged};
 
 // A coefficient times a value.
 fn product(a: i32, x: u64) -> i64
@@ -158,4 +159,17 @@ fn judge_question(q: Question, values: &[u64]) -> TruthAnswer
         return TruthAnswer::Yes;
     }
     TruthAnswer::No
+}
+
+// Judges a tuple of values by a question's bytes, which are read first.
+pub fn judge(bytes: &[u8], values: &[u64]) -> TruthAnswer
+    ensures { λ r. ⌜ r ≡ judged (now (bytes .entry)) (now (values .entry)) ⌝ }
+{
+    let held = wire::read(bytes);
+    let answer = held.answer;
+    let question = held.question;
+    match answer {
+        ReadAnswer::Accepted => judge_question(question, values),
+        ReadAnswer::Refused(refusal) => TruthAnswer::Refused(refusal),
+    }
 }
