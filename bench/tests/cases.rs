@@ -1,0 +1,151 @@
+//! The cases that document 01 checks by hand, the asking program's example, and the two numberings set side by side.
+
+use pelohuaki_bench::generate::{question_of, Numbers, Random};
+use pelohuaki_bench::reading::*;
+use std::collections::HashMap;
+
+/// A question from its codes and its atoms, each the coefficients and then the constant.
+fn question(n: u8, codes: &[u8], atoms: &[&[i32]]) -> Vec<u8> {
+    let mut question = Question::empty();
+    question.n = n;
+    question.codes[..codes.len()].copy_from_slice(codes);
+    for (i, atom) in atoms.iter().enumerate() {
+        let n = n as usize;
+        question.coefficients[6 * i..6 * i + n].copy_from_slice(&atom[..n]);
+        question.constants[i] = atom[n];
+    }
+    bytes_of(&question).unwrap()
+}
+
+fn decided(bytes: &[u8], rows: usize) -> (Decision, Vec<u8>) {
+    let decided = decide(bytes, &vec![0; 8 * rows], &vec![0; 2 * rows], &[0; 64]);
+    let letters = if let Decision::Found { letters, .. } = decided.answer { letters } else { 0 };
+    (decided.answer, decided.word[..letters].to_vec())
+}
+
+fn found(states: usize, word: &[u8]) -> (Decision, Vec<u8>) {
+    (Decision::Found { states, letters: word.len() }, word.to_vec())
+}
+
+fn never(states: usize) -> (Decision, Vec<u8>) {
+    (Decision::Never { states }, Vec::new())
+}
+
+fn no_room(states: usize) -> (Decision, Vec<u8>) {
+    (Decision::NoRoom { states }, Vec::new())
+}
+
+#[test]
+fn checked_by_hand() {
+    let five = question(2, &[EQUATION], &[&[5, 1, 3]]);
+    assert_eq!(decided(&five, 7), found(7, &[2, 2]));
+    // Key cells for eight atoms a row: the path area is what is short here.
+    assert_eq!(decided(&five, 6), no_room(6));
+    let built = build(&five, &[0; 9], &[0; 45]);
+    assert_eq!(built.answer, Building::Built { states: 9 });
+    assert_eq!(built.keys, [3, DEAD, -1, 1, -3, -2, 0, -4, -5]);
+    assert_eq!(build(&five, &[0; 8], &[0; 45]).answer, Building::NoRoom { states: 8 });
+    assert_eq!(build(&five, &[0; 9], &[0; 44]).answer, Building::NoRoom { states: 8 });
+
+    assert_eq!(decided(&question(3, &[EQUATION], &[&[1, 2, -3, 2]]), 100), found(4, &[2]));
+    let odd = question(1, &[EQUATION], &[&[2, 1]]);
+    assert_eq!(decided(&odd, 2), never(2));
+    assert_eq!(decided(&odd, 1), no_room(1));
+    assert_eq!(decided(&question(1, &[AT_MOST], &[&[1, -1]]), 100), never(1));
+    assert_eq!(decided(&question(1, &[NOT, EQUATION], &[&[1, 0]]), 100), found(2, &[1]));
+    assert_eq!(decided(&question(1, &[NOT, AT_MOST], &[&[1, 5]]), 100), found(5, &[0, 1, 1]));
+    assert_eq!(decided(&question(2, &[AND, AT_MOST, AT_MOST], &[&[1, -1, -1], &[-1, 1, 0]]), 100), never(2));
+    assert_eq!(decided(&question(1, &[EQUATION], &[&[0, 0]]), 100), found(1, &[]));
+
+    let coconuts = question(
+        6,
+        &[AND, AND, AND, AND, EQUATION, EQUATION, EQUATION, EQUATION, EQUATION],
+        &[
+            &[-4, 5, 0, 0, 0, 0, 1],
+            &[0, -4, 5, 0, 0, 0, 1],
+            &[0, 0, -4, 5, 0, 0, 1],
+            &[0, 0, 0, -4, 5, 0, 1],
+            &[0, 0, 0, 0, -4, 5, 1],
+        ],
+    );
+    assert_eq!(decided(&coconuts, 100), found(49, &[63]));
+    assert_eq!(decided(&[], 100).0, Decision::Refused(Refusal { number: 1, place: 0 }));
+    assert_eq!(decided(&five, 0), no_room(0));
+}
+
+#[test]
+fn halving() {
+    // 0x <= k goes to the floor of k / 2 on letter 0.
+    for (k, half) in [(-3, -2), (-1, -1), (0, 0), (1, 0)] {
+        let meaning = meaning(&read(&question(1, &[AT_MOST], &[&[0, k]])).unwrap());
+        assert_eq!(meaning.step(&meaning.start(), 0), [Some(half)]);
+    }
+}
+
+#[test]
+fn asking() {
+    let bytes = [
+        0x01, 0x00, 0x01, 0x00, 0x02, 0x0C, 0x00, 0x10, 0x00, 0x05, 0x00, 0x00, 0x00, 0x01, 0x00, 0x00, 0x00, 0x03, 0x00, 0x00, 0x00, 0x00,
+        0x00, 0xFF, 0x00,
+    ];
+    assert_eq!(ask(&bytes), "verdict found\nvalues 0 3\nletters 2 2\nstates 7\n");
+    let mut beyond = bytes;
+    beyond[9..13].copy_from_slice(&4_097i32.to_le_bytes());
+    assert_eq!(ask(&beyond), "refused 4 at 5\n");
+    assert_eq!(ask(&question(1, &[EQUATION], &[&[0, 0]])), "verdict found\nvalues 0\nletters none\nstates 1\n");
+    assert_eq!(ask(&question(1, &[EQUATION], &[&[2, 1]])), "verdict never\nstates 2\n");
+    assert_eq!(ask(&question(1, &[EQUATION], &[&[4_096, 4_095]])), "verdict never\nstates 2\n");
+    assert_eq!(ask(&question(2, &[EQUATION], &[&[4_095, -4_093, 1_000_000]])).lines().next(), Some("verdict no-room"));
+}
+
+#[test]
+fn bare_steps() {
+    let bytes = question(2, &[EQUATION], &[&[5, 1, 3]]);
+    let head = record(&bytes, 0).unwrap();
+    assert_eq!((head.kind, head.body, head.next), (KIND_HEAD, &[2][..], 5));
+    let atom = record(&bytes, 5).unwrap();
+    assert_eq!((atom.kind, atom.body.len(), atom.next), (KIND_EQUATION, 12, 21));
+    let end = record(&bytes, 21).unwrap();
+    assert_eq!((end.kind, end.body.len(), end.next), (KIND_END, 0, 25));
+    assert_eq!(record(&bytes, 25), Err(Refusal { number: 1, place: 25 }));
+    assert_eq!(record(&bytes[..20], 5), Err(Refusal { number: 1, place: 5 }));
+    // A bare step knows no kind.
+    assert_eq!(record(&[0, 0, 0x34, 0x12], 0).unwrap().kind, 0x1234);
+}
+
+/// The numbering, against its definition to the letter: every word in order, up to a length, numbers the state it reaches if that is new.
+#[test]
+fn numbering_by_every_word() {
+    let mut random = Random::new(11);
+    for _ in 0..300 {
+        let n = 1 + random.below(3);
+        let m = 1 + random.below(3);
+        let meaning = meaning(&question_of(&mut random, n, m, Numbers::Small));
+        let longest = 12 / n;
+        let mut first: HashMap<State, Vec<u8>> = HashMap::new();
+        let mut order: Vec<(State, Vec<u8>)> = Vec::new();
+        for length in 0..=longest {
+            for code in 0..1usize << (n * length) {
+                // The first letter of the word is the highest digit of the code, so codes count up in the words' order.
+                let word: Vec<u8> = (0..length).map(|i| (code >> (n * (length - 1 - i)) & ((1 << n) - 1)) as u8).collect();
+                let state = word.iter().fold(meaning.start(), |state, &letter| meaning.step(&state, letter));
+                if !first.contains_key(&state) {
+                    first.insert(state.clone(), word.clone());
+                    order.push((state, word));
+                }
+            }
+        }
+        let (states, _) = numbering(&meaning, 65_535);
+        let within: Vec<_> = states.iter().filter(|numbered| numbered.word.len() <= longest).collect();
+        assert_eq!(within.len(), order.len());
+        for (numbered, (state, word)) in within.iter().zip(&order) {
+            assert_eq!((&numbered.state, &numbered.word), (state, word));
+        }
+        assert!(states.len() as u128 <= meaning.bound());
+        for numbered in &states[1..] {
+            let (before, last) = numbered.word.split_at(numbered.word.len() - 1);
+            assert_eq!(states[numbered.from].word, before);
+            assert_eq!([numbered.letter], last);
+        }
+    }
+}
