@@ -1,0 +1,358 @@
+//! Generated inputs: the plain solver against the reading, every cell; the reading against what it must mean; and that the generator
+//! reaches every answer that document 01 names.
+
+use pelohuaki_bench::generate::*;
+use pelohuaki_bench::reading::*;
+use pelohuaki_bench::{plain, reading};
+use std::collections::BTreeMap;
+
+/// How often each answer was met.
+#[derive(Default)]
+struct Met(BTreeMap<String, usize>);
+
+impl Met {
+    fn meet(&mut self, answer: impl Into<String>) {
+        *self.0.entry(answer.into()).or_default() += 1;
+    }
+
+    /// Each of these was met so many times or more.
+    fn at_least(&self, times: usize, answers: &[&str]) {
+        println!("{:?}", self.0);
+        for &answer in answers {
+            assert!(self.0.get(answer).copied().unwrap_or(0) >= times, "{answer}: {:?}", self.0);
+        }
+    }
+}
+
+fn decision_name(answer: Decision) -> String {
+    match answer {
+        Decision::Found { .. } => "found".into(),
+        Decision::Never { .. } => "never".into(),
+        Decision::NoRoom { .. } => "7".into(),
+        Decision::WordShort { .. } => "8".into(),
+        Decision::Refused(refusal) => refusal.number.to_string(),
+    }
+}
+
+fn building_name(answer: Building) -> String {
+    match answer {
+        Building::Built { .. } => "built".into(),
+        Building::NoRoom { .. } => "7".into(),
+        Building::Refused(refusal) => refusal.number.to_string(),
+    }
+}
+
+/// The reachable states, or `most` where there are more.
+fn reachable(bytes: &[u8], most: usize) -> usize {
+    reading::read(bytes).map_or(3, |question| numbering(&meaning(&question), most).0.len())
+}
+
+fn compare_decide(bytes: &[u8], keys: Vec<i32>, path: Vec<u16>, word: Vec<u8>) -> Decided {
+    let expected = reading::decide(bytes, &keys, &path, &word);
+    let (mut keys, mut path, mut word) = (keys, path, word);
+    let answer = plain::decide(bytes, &mut keys, &mut path, &mut word);
+    assert!(Decided { answer, keys, path, word } == expected, "{bytes:x?} {answer:?} {:?}", expected.answer);
+    expected
+}
+
+fn compare_build(bytes: &[u8], keys: Vec<i32>, table: Vec<u16>) -> Built {
+    let expected = reading::build(bytes, &keys, &table);
+    let (mut keys, mut table) = (keys, table);
+    let answer = plain::build(bytes, &mut keys, &mut table);
+    assert!(Built { answer, keys, table } == expected, "{bytes:x?} {answer:?} {:?}", expected.answer);
+    expected
+}
+
+#[test]
+fn read_alike() {
+    let mut random = Random::new(1);
+    let mut met = Met::default();
+    for _ in 0..200_000 {
+        let bytes = any_bytes(&mut random);
+        let read = reading::read(&bytes);
+        assert_eq!(plain::read(&bytes), read, "{bytes:x?}");
+        met.meet(match read {
+            Ok(_) => "accepted".into(),
+            Err(refusal) => refusal.number.to_string(),
+        });
+    }
+    met.at_least(500, &["accepted", "1", "2", "3", "4", "5", "6"]);
+}
+
+/// Reading the bytes of a question gives it back, and writing what was read gives the bytes back.
+#[test]
+fn read_and_write_are_inverse() {
+    let mut random = Random::new(2);
+    for _ in 0..20_000 {
+        let question = question(&mut random);
+        let bytes = bytes_of(&question).unwrap();
+        assert_eq!(reading::read(&bytes).as_ref(), Ok(&question));
+        let bytes = damaged_bytes(&mut random);
+        if let Ok(question) = reading::read(&bytes) {
+            assert_eq!(bytes_of(&question), Ok(bytes));
+        }
+    }
+}
+
+/// Writing takes a held question exactly if it is what reading its bytes gives; the buffer changes at its front alone.
+#[test]
+fn write_answers() {
+    let mut random = Random::new(3);
+    let mut met = Met::default();
+    for _ in 0..100_000 {
+        let question = held(&mut random);
+        let exact = bytes_of(&question).map_or(20, |bytes| bytes.len());
+        let room = room(&mut random, exact);
+        let buffer = cells8(&mut random, room);
+        let written = reading::write(&question, &buffer);
+        assert_eq!(written.buffer.len(), buffer.len());
+        match written.answer {
+            Ok(length) => {
+                assert_eq!(reading::read(&written.buffer[..length]), Ok(question));
+                assert_eq!(written.buffer[length..], buffer[length..]);
+                met.meet("written");
+            }
+            Err(refusal) => {
+                assert_eq!(written.buffer, buffer);
+                met.meet(refusal.number.to_string());
+                if refusal.place == 64 {
+                    met.meet(format!("{} at 64", refusal.number));
+                }
+            }
+        }
+    }
+    met.at_least(300, &["written", "2", "4", "5", "6", "8", "5 at 64", "6 at 64"]);
+}
+
+#[test]
+fn judge_answers() {
+    let mut random = Random::new(4);
+    let mut met = Met::default();
+    for _ in 0..50_000 {
+        let bytes = if random.one_in(5) { damaged_bytes(&mut random) } else { question_bytes(&mut random) };
+        let n = bytes.get(4).copied().unwrap_or(1).min(6);
+        let values = values(&mut random, n);
+        met.meet(match judge(&bytes, &values) {
+            Ok(true) => "yes".into(),
+            Ok(false) => "no".into(),
+            Err(refusal) => refusal.number.to_string(),
+        });
+    }
+    met.at_least(100, &["yes", "no", "1", "2", "3", "4", "5", "6", "9"]);
+}
+
+#[test]
+fn decide_alike() {
+    let mut random = Random::new(5);
+    let mut met = Met::default();
+    for _ in 0..6_000 {
+        let bytes = if random.one_in(5) { damaged_bytes(&mut random) } else { question_bytes(&mut random) };
+        let m = reading::read(&bytes).map_or(2, |question| question.atoms());
+        // The states and letters that the decision takes with rows enough, so that rooms can be just enough or one short.
+        let most = 1_200;
+        let whole = reading::decide(&bytes, &vec![0; most * m], &vec![0; most * 2], &[0; 256]);
+        let (states, letters) = match whole.answer {
+            Decision::Found { states, letters } => (states, letters),
+            Decision::Never { states } | Decision::NoRoom { states } | Decision::WordShort { states } => (states, 3),
+            Decision::Refused(_) => (3, 3),
+        };
+        for _ in 0..2 {
+            let rows = room(&mut random, states);
+            let spare = room(&mut random, states).max(rows);
+            let (key_rows, path_rows) = random.pick(&[(rows, rows), (rows, spare), (spare, rows)]);
+            let key_cells = key_rows * m + random.below(m);
+            let path_cells = path_rows * 2 + random.below(2);
+            let letters = room(&mut random, letters);
+            let keys = cells32(&mut random, key_cells);
+            let path = cells16(&mut random, path_cells);
+            let word = cells8(&mut random, letters);
+            met.meet(decision_name(compare_decide(&bytes, keys, path, word).answer));
+        }
+    }
+    met.at_least(30, &["found", "never", "1", "2", "3", "4", "5", "6", "7", "8"]);
+}
+
+#[test]
+fn build_alike() {
+    let mut random = Random::new(6);
+    let mut met = Met::default();
+    for _ in 0..2_500 {
+        let bytes = if random.one_in(5) { damaged_bytes(&mut random) } else { question_bytes(&mut random) };
+        let (n, m) = reading::read(&bytes).map_or((2, 2), |question| (question.n, question.atoms()));
+        let width = 1 + (1 << n);
+        let states = reachable(&bytes, 700);
+        for _ in 0..2 {
+            let rows = room(&mut random, states);
+            let spare = room(&mut random, states).max(rows);
+            let (key_rows, table_rows) = random.pick(&[(rows, rows), (rows, spare), (spare, rows)]);
+            let key_cells = key_rows * m + random.below(m);
+            let table_cells = table_rows * width + random.below(width);
+            let keys = cells32(&mut random, key_cells);
+            let table = cells16(&mut random, table_cells);
+            met.meet(building_name(compare_build(&bytes, keys, table).answer));
+        }
+    }
+    met.at_least(10, &["built", "1", "2", "3", "4", "5", "6", "7"]);
+}
+
+/// Around the row where the large index takes over, and past the last row that can be numbered.
+#[test]
+fn many_states() {
+    let mut random = Random::new(7);
+    let mut compared = 0;
+    while compared < 60 {
+        let (n, m) = random.pick(&[(1, 4), (2, 1), (2, 2), (3, 2), (2, 8), (3, 1)]);
+        let bytes = bytes_of(&question_of(&mut random, n, m, Numbers::Mixed)).unwrap();
+        if reachable(&bytes, 258) < 258 {
+            continue;
+        }
+        compared += 1;
+        for rows in [255, 256, 257, 258, 1_000, 5_000] {
+            let keys = cells32(&mut random, rows * m);
+            let path = cells16(&mut random, rows * 2);
+            compare_decide(&bytes, keys, path, vec![5; 64]);
+            let keys = cells32(&mut random, rows * m);
+            let table = cells16(&mut random, rows * (1 + (1 << n)));
+            compare_build(&bytes, keys, table);
+        }
+    }
+
+    // a x <= 0 reaches 0 to -a. With b y <= 0 beside it, and 0x <= -1 so that nothing accepts, that makes (a + 1)(b + 1) states.
+    for (a, b, states) in [(216, 301, 65_534), (254, 256, 65_535), (255, 255, 65_536), (300, 300, 90_601)] {
+        let mut question = Question::empty();
+        question.n = 2;
+        question.codes[..5].copy_from_slice(&[AND, AND, AT_MOST, AT_MOST, AT_MOST]);
+        question.coefficients[0] = a;
+        question.coefficients[7] = b;
+        question.constants[2] = -1;
+        let bytes = bytes_of(&question).unwrap();
+        for rows in [65_534, 65_535, 65_536, 70_000] {
+            let lent = rows.min(65_535);
+            let decided = compare_decide(&bytes, vec![5; rows * 3], vec![5; rows * 2], vec![5; 64]);
+            let built = compare_build(&bytes, vec![5; rows * 3], vec![5; rows * 5]);
+            if states <= lent {
+                assert_eq!(decided.answer, Decision::Never { states });
+                assert_eq!(built.answer, Building::Built { states });
+            } else {
+                assert_eq!(decided.answer, Decision::NoRoom { states: lent });
+                assert_eq!(built.answer, Building::NoRoom { states: lent });
+            }
+        }
+    }
+}
+
+/// Tuples of n values, each from 0 to `most`.
+fn tuples(n: usize, most: u64) -> Vec<Vec<u64>> {
+    let mut tuples = vec![Vec::new()];
+    for _ in 0..n {
+        tuples = tuples.iter().flat_map(|tuple| (0..=most).map(move |value| [&tuple[..], &[value]].concat())).collect();
+    }
+    tuples
+}
+
+/// Small values, tried one by one, against the verdicts: never has no small solution, and found is the first word that spells one.
+#[test]
+fn small_values() {
+    let mut random = Random::new(8);
+    let mut met = Met::default();
+    let small: Vec<Vec<Vec<u64>>> = (1..=6).map(|n| tuples(n, [0, 200, 30, 9, 5, 3, 2][n])).collect();
+    for _ in 0..4_000 {
+        let n = 1 + random.below(6);
+        let m = 1 + random.below(if n < 4 { 8 } else { 4 });
+        let numbers = random.pick(&[Numbers::Small, Numbers::Small, Numbers::Small, Numbers::Mixed]);
+        let bytes = bytes_of(&question_of(&mut random, n, m, numbers)).unwrap();
+        let rows = 3_000;
+        let (mut keys, mut path, mut word) = (vec![0; rows * m], vec![0; rows * 2], vec![0; 64]);
+        let answer = plain::decide(&bytes, &mut keys, &mut path, &mut word);
+        met.meet(decision_name(answer));
+        match answer {
+            Decision::Never { .. } => {
+                for values in &small[n - 1] {
+                    assert_eq!(judge(&bytes, values), Ok(false), "{bytes:x?} {values:?}");
+                }
+            }
+            Decision::Found { letters, .. } => {
+                let values = |word: &[u8]| -> Vec<u64> { (1..=n).map(|j| spell(n as u8, j as u8, word).unwrap()).collect() };
+                assert_eq!(judge(&bytes, &values(&word[..letters])), Ok(true), "{bytes:x?}");
+                // Every earlier word: the codes of a length count up in the words' order.
+                let shortest = if n * letters > 14 { (14 / n).min(letters - 1) } else { letters };
+                for length in 0..=shortest {
+                    for code in 0..1usize << (n * length) {
+                        let earlier: Vec<u8> = (0..length).map(|i| (code >> (n * (length - 1 - i)) & ((1 << n) - 1)) as u8).collect();
+                        if length == letters && earlier[..] >= word[..letters] {
+                            break;
+                        }
+                        assert_eq!(judge(&bytes, &values(&earlier)), Ok(false), "{bytes:x?} {earlier:?}");
+                        met.meet("earlier words");
+                    }
+                }
+            }
+            _ => {}
+        }
+    }
+    met.at_least(500, &["found", "never", "earlier words"]);
+}
+
+/// A built table, run on a word, says what the judge says of the values that the word spells.
+#[test]
+fn tables_judge() {
+    let mut random = Random::new(9);
+    let mut met = Met::default();
+    for _ in 0..1_500 {
+        let n = 1 + random.below(6);
+        let m = 1 + random.below(3);
+        let bytes = bytes_of(&question_of(&mut random, n, m, Numbers::Small)).unwrap();
+        let rows = 2_000;
+        let width = 1 + (1usize << n);
+        let (mut keys, mut table) = (vec![0; rows * m], vec![0; rows * width]);
+        let Building::Built { states } = plain::build(&bytes, &mut keys, &mut table) else { continue };
+        let cells = &table[..states * width];
+        for _ in 0..40 {
+            let length = random.pick(&[0, 1, 2, 3, 4, 10, 40]);
+            let word: Vec<u8> = (0..length).map(|_| random.below(1 << n) as u8).collect();
+            let values: Vec<u64> = (1..=n).map(|j| spell(n as u8, j as u8, &word).unwrap()).collect();
+            let accepted = run(n as u8, cells, &word);
+            assert_eq!(accepted, judge(&bytes, &values), "{bytes:x?} {word:?}");
+            met.meet(if accepted == Ok(true) { "yes" } else { "no" });
+        }
+    }
+    met.at_least(1_000, &["yes", "no"]);
+}
+
+#[test]
+fn run_answers() {
+    let mut random = Random::new(10);
+    let mut met = Met::default();
+    for _ in 0..50_000 {
+        let n = 1 + random.below(6) as u8;
+        let cells = if random.one_in(3) { damaged_table(&mut random, n) } else { table(&mut random, n) };
+        let handed = if random.one_in(10) { random.pick(&[0, 1, 2, 6, 7, 8, 255]) } else { n };
+        let word = word(&mut random, n);
+        met.meet(match run(handed, &cells, &word) {
+            Ok(true) => "yes".into(),
+            Ok(false) => "no".into(),
+            Err(refusal) => refusal.number.to_string(),
+        });
+    }
+    met.at_least(500, &["yes", "no", "4", "10", "11"]);
+    assert_eq!(run(1, &tall_table(65_535), &[0]), Ok(false));
+    assert_eq!(run(1, &tall_table(65_536), &[0]), Err(Refusal { number: 11, place: 0 }));
+}
+
+#[test]
+fn spell_answers() {
+    let mut random = Random::new(12);
+    let mut met = Met::default();
+    for _ in 0..50_000 {
+        let n = if random.one_in(8) { random.pick(&[0, 7, 8, 255]) } else { 1 + random.below(6) as u8 };
+        let variable = if random.one_in(8) { random.pick(&[0, 7, 255, n.wrapping_add(1)]) } else { 1 + random.below(n.clamp(1, 6) as usize) as u8 };
+        let word = word(&mut random, n);
+        met.meet(match spell(n, variable, &word) {
+            Ok(_) => "value".into(),
+            Err(refusal) => refusal.number.to_string(),
+        });
+    }
+    met.at_least(500, &["value", "4", "9", "10"]);
+    assert_eq!(spell(1, 1, &[1; 64]), Ok(u64::MAX));
+    assert_eq!(spell(2, 2, &[1, 2, 3]), Ok(6));
+}
