@@ -1,1 +1,107 @@
-fn main() {}
+//! Measures the solvers side by side in one run: the 300 list-block questions decided with 65,535 rows lent, and the coconut equations
+//! built whole (25,090 states, 64 letters). Every figure is the median of several rounds, the solvers taking turns in each, and each solver
+//! is also given as its ratio to the plain one. `bench [ROUNDS]`, 15 rounds unless said.
+
+use pelohuaki_bench::reading::{Building, Decision, Question};
+use pelohuaki_bench::{plain, reading, vectors};
+use std::hint::black_box;
+use std::time::Instant;
+
+/// A way to make the two calls, on lent buffers.
+struct Solver {
+    name: &'static str,
+    decide: fn(&[u8], &mut [i32], &mut [u16], &mut [u8]) -> Decision,
+    build: fn(&[u8], &mut [i32], &mut [u16]) -> Building,
+    /// The reading is slow and needs few rounds.
+    most_rounds: usize,
+}
+
+fn solvers() -> Vec<Solver> {
+    vec![
+        Solver { name: "plain", decide: plain::decide, build: plain::build, most_rounds: usize::MAX },
+        // The proved calls come here, from `proved`, under `#[cfg(feature = "proved")]`.
+        Solver { name: "reading", decide: reading_decide, build: reading_build, most_rounds: 3 },
+    ]
+}
+
+fn reading_decide(bytes: &[u8], keys: &mut [i32], path: &mut [u16], word: &mut [u8]) -> Decision {
+    let decided = reading::decide(bytes, keys, path, word);
+    keys.copy_from_slice(&decided.keys);
+    path.copy_from_slice(&decided.path);
+    word.copy_from_slice(&decided.word);
+    decided.answer
+}
+
+fn reading_build(bytes: &[u8], keys: &mut [i32], table: &mut [u16]) -> Building {
+    let built = reading::build(bytes, keys, table);
+    keys.copy_from_slice(&built.keys);
+    table.copy_from_slice(&built.table);
+    built.answer
+}
+
+fn median(mut times: Vec<f64>) -> f64 {
+    times.sort_by(f64::total_cmp);
+    times[times.len() / 2]
+}
+
+/// Runs each solver once a round, in turn, and gives each one's median in nanoseconds.
+fn medians(rounds: usize, solvers: &[Solver], mut once: impl FnMut(&Solver)) -> Vec<f64> {
+    let mut times: Vec<Vec<f64>> = solvers.iter().map(|_| Vec::new()).collect();
+    for round in 0..rounds {
+        for (solver, times) in solvers.iter().zip(&mut times) {
+            if round < solver.most_rounds {
+                let start = Instant::now();
+                once(solver);
+                times.push(start.elapsed().as_nanos() as f64);
+            }
+        }
+    }
+    times.into_iter().map(median).collect()
+}
+
+fn report(title: &str, solvers: &[Solver], medians: &[f64], transitions: usize, calls: usize) {
+    println!("{title}: {calls} calls, {transitions} transitions");
+    for (solver, &time) in solvers.iter().zip(medians) {
+        println!(
+            "  {:8} {:9.2} ns a transition {:12.2} us a call {:9.2} x plain",
+            solver.name,
+            time / transitions as f64,
+            time / calls as f64 / 1_000.0,
+            time / medians[0]
+        );
+    }
+}
+
+fn main() {
+    let rounds = std::env::args().nth(1).map_or(15, |rounds| rounds.parse().expect("a number of rounds")).max(1);
+    let solvers = solvers();
+
+    let questions = vectors::blocks();
+    let rows = Question::STATES;
+    let mut keys = vec![0; rows * Question::ATOMS];
+    let mut path = vec![0; rows * 2];
+    let mut word = vec![0; 1_024];
+    // The transitions of a decision do not depend on the solver: those up to the state at which it stops.
+    let transitions = questions.iter().map(|question| plain::decide_counted(question, &mut keys, &mut path, &mut word).1).sum();
+    let expected: Vec<Decision> = questions.iter().map(|question| plain::decide(question, &mut keys, &mut path, &mut word)).collect();
+    for solver in &solvers {
+        for (question, expected) in questions.iter().zip(&expected) {
+            assert_eq!((solver.decide)(question, &mut keys, &mut path, &mut word), *expected, "{}", solver.name);
+        }
+    }
+    let times = medians(rounds, &solvers, |solver| {
+        for question in &questions {
+            black_box((solver.decide)(black_box(question), &mut keys, &mut path, &mut word));
+        }
+    });
+    report("list blocks, decided", &solvers, &times, transitions, questions.len());
+
+    let states = 25_090;
+    let mut keys = vec![0; states * 5];
+    let mut table = vec![0; states * 65];
+    let times = medians(rounds, &solvers, |solver| {
+        let answer = (solver.build)(black_box(vectors::COCONUTS), &mut keys, &mut table);
+        assert_eq!(answer, Building::Built { states }, "{}", solver.name);
+    });
+    report("coconuts, built whole", &solvers, &times, states * 64, 1);
+}
