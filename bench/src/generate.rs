@@ -1,5 +1,7 @@
 //! Inputs from a fixed seed: questions, damaged bytes, held questions, tables, words, values and rooms. The same seed gives the same inputs.
 
+#![forbid(unsafe_code)]
+
 use crate::reading::{bytes_of, Question, AND, AT_MOST, EQUATION, NOT, OR};
 
 /// SplitMix64.
@@ -87,21 +89,23 @@ fn constant(random: &mut Random, numbers: Numbers) -> i32 {
     }) as i32
 }
 
-/// The codes of a formula with so many atoms, in no more than `depth` levels, its nots taken from `nots`.
-fn formula(random: &mut Random, atoms: usize, depth: usize, nots: &mut usize, codes: &mut Vec<u8>) {
+/// The codes of a formula with so many atoms, in no more than `depth` levels, its nots taken from `nots`. A crowded one has its nots over
+/// atoms alone, where there is room for the most of them.
+fn formula(random: &mut Random, atoms: usize, depth: usize, crowded: bool, nots: &mut usize, codes: &mut Vec<u8>) {
     let levels = |atoms: usize| atoms.next_power_of_two().trailing_zeros() as usize + 1;
-    if *nots > 0 && depth > levels(atoms) && !random.one_in(3) {
+    let wanted = if crowded { atoms == 1 && !random.one_in(20) } else { !random.one_in(3) };
+    if *nots > 0 && depth > levels(atoms) && wanted {
         *nots -= 1;
         codes.push(NOT);
-        formula(random, atoms, depth - 1, nots, codes);
+        formula(random, atoms, depth - 1, crowded, nots, codes);
     } else if atoms == 1 {
         codes.push(random.pick(&[EQUATION, AT_MOST]));
     } else {
         codes.push(random.pick(&[AND, OR]));
         let fitting: Vec<usize> = (1..atoms).filter(|&left| levels(left) < depth && levels(atoms - left) < depth).collect();
         let left = random.pick(&fitting);
-        formula(random, left, depth - 1, nots, codes);
-        formula(random, atoms - left, depth - 1, nots, codes);
+        formula(random, left, depth - 1, crowded, nots, codes);
+        formula(random, atoms - left, depth - 1, crowded, nots, codes);
     }
 }
 
@@ -109,9 +113,11 @@ fn formula(random: &mut Random, atoms: usize, depth: usize, nots: &mut usize, co
 pub fn question_of(random: &mut Random, n: usize, m: usize, numbers: Numbers) -> Question {
     let least = m.next_power_of_two().trailing_zeros() as usize + 1;
     let depth = random.pick(&[least, least + 1, 6.max(least), Question::DEPTH, Question::DEPTH]);
-    let mut nots = random.pick(&[0, 1, 3, 8, Question::NODES - (2 * m - 1)]);
+    let crowded = random.one_in(8);
+    let most = Question::NODES - (2 * m - 1);
+    let mut nots = if crowded { most } else { random.pick(&[0, 1, 3, 8, most]) };
     let mut codes = Vec::new();
-    formula(random, m, depth, &mut nots, &mut codes);
+    formula(random, m, depth, crowded, &mut nots, &mut codes);
 
     let mut question = Question::empty();
     question.n = n as u8;
@@ -176,6 +182,21 @@ fn atom_record(random: &mut Random, n: usize) -> Record {
     }
     body.extend_from_slice(&constant(random, Numbers::Mixed).to_le_bytes());
     (body.len() as u16, random.pick(&[0x0010, 0x0011]), body)
+}
+
+/// A formula with so many atoms, halved at each connective, with five to seven nots over each atom.
+fn crowd(random: &mut Random, atoms: usize, n: usize, records: &mut Vec<Record>) {
+    if atoms > 1 {
+        records.push((0, random.pick(&[0x0021, 0x0022]), Vec::new()));
+        crowd(random, atoms / 2, n, records);
+        crowd(random, atoms - atoms / 2, n, records);
+    } else {
+        for _ in 0..random.pick(&[5, 6, 6, 6, 7]) {
+            records.push((0, 0x0020, Vec::new()));
+        }
+        let atom = atom_record(random, n);
+        records.push(atom);
+    }
 }
 
 /// Where the atoms stand among the records.
@@ -256,6 +277,13 @@ pub fn damaged_bytes(random: &mut Random) -> Vec<u8> {
             let i = random.below(records.len());
             let j = random.below(records.len());
             records.swap(i, j);
+        }
+        12 => {
+            // Eight atoms in a shallow formula, each under nots: about 64 nodes.
+            let head = records[0].clone();
+            records = vec![head];
+            crowd(random, 8, n, &mut records);
+            records.push((0, 0x00FF, Vec::new()));
         }
         _ => {}
     }

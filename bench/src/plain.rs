@@ -1,6 +1,8 @@
 //! An unproved, fast solver with the algorithm of the proved one, to measure against: letter sums worked once, key rows in the lent area,
 //! a chained hash index over them, and targets worked in a local row. Safe Rust throughout.
 
+#![forbid(unsafe_code)]
+
 use crate::reading::{Building, Decision, Question, Refusal, AND, AT_MOST, DEAD, EQUATION, NOT, OR};
 
 /// No row: the end of a chain.
@@ -21,7 +23,7 @@ pub fn read(bytes: &[u8]) -> Result<Question, Refusal> {
     let mut place = 5;
     let mut nodes = 0;
     let mut atoms = 0;
-    // How many parts are still due at each depth below that of the next node.
+    // How many parts are still due at each depth. The next node is at `depth`, the deepest that has any.
     let mut due = [0u8; Question::DEPTH + 2];
     let mut depth = 1;
     due[depth] = 1;
@@ -95,7 +97,8 @@ struct Machine<'q> {
     codes: &'q [u8; 64],
     /// The atom at each node, where there is one.
     atom_at: [u8; 64],
-    equation: [bool; 8],
+    /// 1 for an equation, which an odd number kills, and 0 for at most.
+    odd: [i32; 8],
     start: [i32; 8],
     m: usize,
     letters: usize,
@@ -106,12 +109,12 @@ struct Machine<'q> {
 impl<'q> Machine<'q> {
     fn new(question: &'q Question) -> Machine<'q> {
         let mut atom_at = [0; 64];
-        let mut equation = [false; 8];
+        let mut odd = [0; 8];
         let mut m = 0;
         for (node, &code) in question.codes.iter().enumerate() {
             if code == EQUATION || code == AT_MOST {
                 atom_at[node] = m as u8;
-                equation[m] = code == EQUATION;
+                odd[m] = (code == EQUATION) as i32;
                 m += 1;
             }
         }
@@ -124,16 +127,16 @@ impl<'q> Machine<'q> {
                 sums[letter * 8 + i] = sums[rest * 8 + i] + question.coefficients[6 * i + j];
             }
         }
-        Machine { codes: &question.codes, atom_at, equation, start: question.constants, m, letters, sums }
+        Machine { codes: &question.codes, atom_at, odd, start: question.constants, m, letters, sums }
     }
 
     fn step(&self, row: &[i32; 8], letter: usize) -> [i32; 8] {
+        // All eight, used or not: an unused entry is 0 with sum 0, and stays 0.
         let mut target = [0; 8];
         let sums = &self.sums[letter * 8..letter * 8 + 8];
-        for i in 0..self.m {
-            let entry = row[i];
-            let left = entry.wrapping_sub(sums[i]);
-            target[i] = if entry == DEAD || (self.equation[i] && left & 1 != 0) { DEAD } else { left >> 1 };
+        for i in 0..8 {
+            let left = row[i].wrapping_sub(sums[i]);
+            target[i] = if row[i] == DEAD || left & self.odd[i] != 0 { DEAD } else { left >> 1 };
         }
         target
     }

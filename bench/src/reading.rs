@@ -1,6 +1,8 @@
 //! A reading of document 01 in plain Rust, for comparison: each call is a function from its inputs and lent buffers to its answer and to
 //! every buffer afterwards. Clear rather than fast; it shares nothing with the proved code or with `plain` but the types at the top.
 
+#![forbid(unsafe_code)]
+
 use std::collections::HashMap;
 
 /// A held question.

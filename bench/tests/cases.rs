@@ -98,6 +98,99 @@ fn asking() {
     assert_eq!(ask(&question(2, &[EQUATION], &[&[4_095, -4_093, 1_000_000]])).lines().next(), Some("verdict no-room"));
 }
 
+/// Hex with spaces where they help.
+fn hex(text: &str) -> Vec<u8> {
+    pelohuaki_bench::vectors::bytes(&text.replace(' ', ""))
+}
+
+#[test]
+fn refusals_of_reading() {
+    let refused = |bytes: &[u8], number, place| assert_eq!(read(bytes), Err(Refusal { number, place }), "{bytes:x?}");
+    refused(&hex("0100 01"), 1, 0);
+    // The kind comes before the length, the length before the cut, the cut before the numbers.
+    refused(&hex("0500 1000"), 2, 0);
+    refused(&hex("0200 0100"), 3, 0);
+    refused(&hex("0100 0100"), 1, 0);
+    refused(&hex("0100 0100 00"), 4, 0);
+    refused(&hex("0100 0100 07"), 4, 0);
+    refused(&hex("0100 0100 01"), 1, 5);
+    refused(&hex("0100 0100 01 0000 FF00"), 2, 5);
+    refused(&hex("0100 0100 01 0100 0100 01"), 2, 5);
+    refused(&hex("0100 0100 01 0C00 1000"), 3, 5);
+    refused(&hex("0100 0100 01 0800 1000 01100000"), 1, 5);
+    refused(&hex("0100 0100 01 0800 1000 01100000 00000000"), 4, 5);
+    refused(&hex("0100 0100 01 0800 1000 01000000 41420F00"), 4, 5);
+    refused(&hex("0100 0100 01 0800 1000 01000000 40420F00"), 1, 17);
+    refused(&hex("0100 0100 01 0800 1000 01000000 40420F00 0000 2000"), 2, 17);
+    refused(&hex("0100 0100 01 0800 1000 01000000 40420F00 0100 FF00"), 3, 17);
+    refused(&hex("0100 0100 01 0800 1000 01000000 40420F00 0000 FF00 00"), 6, 21);
+    // An atom at depth 17, or a ninth, is refused as that even where its number is beyond its limit too.
+    let atom = "0800 1000 01100000 00000000";
+    refused(&hex(&format!("0100 0100 01 {} {atom}", "0000 2000".repeat(16))), 5, 5 + 16 * 4);
+    let good = "0000 2100 0800 1100 01000000 00000000".repeat(8);
+    refused(&hex(&format!("0100 0100 01 {good} {atom}")), 5, 5 + 8 * 16);
+    // A connective at depth 16 stands; what follows it is too deep.
+    refused(&hex(&format!("0100 0100 01 {} 0000 2000", "0000 2000".repeat(16))), 5, 5 + 16 * 4);
+    // The 65th node, before it could be anything else: nots and ors in a shallow formula of 64 nodes and one part to come.
+    let six = format!("0000 2200 {} 0800 1100 01000000 00000000", "0000 2000".repeat(6));
+    let nodes = six.repeat(8);
+    refused(&hex(&format!("0100 0100 01 {nodes} 0000 2000")), 5, 5 + 8 * (7 * 4 + 12));
+}
+
+#[test]
+fn refusals_of_writing() {
+    let base = read(&question(2, &[AND, EQUATION, NOT, AT_MOST], &[&[5, 1, 3], &[1, 1, 1]])).unwrap();
+    let refused = |change: &dyn Fn(&mut Question), number, place| {
+        let mut question = base.clone();
+        change(&mut question);
+        assert_eq!(write(&question, &[9; 600]), Written { answer: Err(Refusal { number, place }), buffer: vec![9; 600] });
+    };
+    refused(&|q| q.n = 0, 4, 0);
+    refused(&|q| q.n = 7, 4, 0);
+    refused(&|q| q.codes[2] = 0, 2, 2);
+    refused(&|q| q.codes[3] = 6, 2, 3);
+    refused(&|q| q.codes[0] = NOT, 6, 2);
+    refused(&|q| q.codes[63] = NOT, 6, 63);
+    refused(&|q| q.codes[3] = OR, 2, 4);
+    refused(&|q| q.coefficients[7] = 4_097, 4, 3);
+    refused(&|q| q.constants[0] = -1_000_001, 4, 1);
+    // A number that no atom uses, here past n in a used row, is left over and not beyond its limit.
+    refused(&|q| q.coefficients[2] = 4_097, 6, 64);
+    refused(&|q| q.coefficients[12] = 1, 6, 64);
+    refused(&|q| q.constants[2] = 1, 6, 64);
+    // Where a code is left over as well, that is the place.
+    refused(&|q| (q.constants[2], q.codes[40]) = (1, 9), 6, 40);
+    // Earlier nodes are checked whole before later ones.
+    refused(&|q| (q.coefficients[0], q.codes[3]) = (5_000, 0), 4, 1);
+    refused(&|q| q.codes = [NOT; 64], 5, 16);
+    // Eight ors, each with an atom under six nots as its left part, leave one part for a 65th node; 15 levels.
+    refused(
+        &|q| {
+            for node in 0..64 {
+                q.codes[node] = [OR, NOT, NOT, NOT, NOT, NOT, NOT, AT_MOST][node % 8];
+            }
+        },
+        5,
+        64,
+    );
+    // A ninth atom at node 16.
+    refused(
+        &|q| {
+            q.codes = [0; 64];
+            for node in 0..17 {
+                q.codes[node] = if node % 2 == 0 && node < 16 { AND } else { AT_MOST };
+            }
+        },
+        5,
+        16,
+    );
+    // The buffer comes last, and is changed at its front alone.
+    let bytes = bytes_of(&base).unwrap();
+    assert_eq!(write(&base, &vec![9; bytes.len() - 1]).answer, Err(Refusal { number: 8, place: 0 }));
+    let written = write(&base, &vec![9; bytes.len() + 2]);
+    assert_eq!(written, Written { answer: Ok(bytes.len()), buffer: [&bytes[..], &[9, 9]].concat() });
+}
+
 #[test]
 fn bare_steps() {
     let bytes = question(2, &[EQUATION], &[&[5, 1, 3]]);

@@ -63,6 +63,64 @@ fn compare_build(bytes: &[u8], keys: Vec<i32>, table: Vec<u16>) -> Built {
     expected
 }
 
+/// The depth of a valid question's formula.
+fn depth(formula: &Formula) -> usize {
+    match formula {
+        Formula::Atom(_) => 1,
+        Formula::Not(p) => 1 + depth(p),
+        Formula::And(p, q) | Formula::Or(p, q) => 1 + depth(p).max(depth(q)),
+    }
+}
+
+/// The generator's questions come with every n and m, and up to the limits of nodes, depth and numbers.
+#[test]
+fn questions_of_every_size() {
+    let mut random = Random::new(13);
+    let mut met = Met::default();
+    for _ in 0..20_000 {
+        let question = question(&mut random);
+        met.meet(format!("n {}", question.n));
+        met.meet(format!("m {}", question.atoms()));
+        met.meet(format!("depth {}", depth(&meaning(&question).formula)));
+        if question.codes[63] != 0 {
+            met.meet("64 nodes");
+        }
+        for number in [4_096, -4_096] {
+            if question.coefficients.contains(&number) {
+                met.meet(format!("coefficient {number}"));
+            }
+        }
+        for number in [1_000_000, -1_000_000] {
+            if question.constants.contains(&number) {
+                met.meet(format!("constant {number}"));
+            }
+        }
+    }
+    let sizes = (1..=6).map(|n| format!("n {n}")).chain((1..=8).map(|m| format!("m {m}"))).chain((1..=16).map(|d| format!("depth {d}")));
+    let sizes: Vec<String> = sizes.collect();
+    met.at_least(50, &sizes.iter().map(String::as_str).collect::<Vec<_>>());
+    met.at_least(50, &["64 nodes", "coefficient 4096", "coefficient -4096", "constant 1000000", "constant -1000000"]);
+}
+
+/// Which of its reasons refusal 5 has at a place.
+fn why_too_many(bytes: &[u8], place: usize) -> &'static str {
+    let is_atom = |kind| kind == KIND_EQUATION || kind == KIND_AT_MOST;
+    let (mut at, mut nodes, mut atoms) = (5, 0, 0);
+    while at < place {
+        let step = record(bytes, at).unwrap();
+        nodes += 1;
+        atoms += is_atom(step.kind) as usize;
+        at = step.next;
+    }
+    if nodes == 64 {
+        "65th node"
+    } else if atoms == 8 && is_atom(record(bytes, place).unwrap().kind) {
+        "ninth atom"
+    } else {
+        "depth 17"
+    }
+}
+
 #[test]
 fn read_alike() {
     let mut random = Random::new(1);
@@ -71,12 +129,17 @@ fn read_alike() {
         let bytes = any_bytes(&mut random);
         let read = reading::read(&bytes);
         assert_eq!(plain::read(&bytes), read, "{bytes:x?}");
-        met.meet(match read {
-            Ok(_) => "accepted".into(),
-            Err(refusal) => refusal.number.to_string(),
-        });
+        match read {
+            Ok(_) => met.meet("accepted"),
+            Err(refusal) => {
+                met.meet(refusal.number.to_string());
+                if refusal.number == 5 {
+                    met.meet(why_too_many(&bytes, refusal.place));
+                }
+            }
+        }
     }
-    met.at_least(500, &["accepted", "1", "2", "3", "4", "5", "6"]);
+    met.at_least(500, &["accepted", "1", "2", "3", "4", "5", "6", "65th node", "ninth atom", "depth 17"]);
 }
 
 /// Reading the bytes of a question gives it back, and writing what was read gives the bytes back.
