@@ -1,6 +1,6 @@
 //! Measures the solvers side by side in one run: the 300 list-block questions decided with 65,535 rows lent, and the coconut equations
-//! built whole (25,090 states, 64 letters). Every figure is the median of several rounds, the solvers taking turns in each, and each solver
-//! is also given as its ratio to the plain one. `bench [ROUNDS]`, 15 rounds unless said.
+//! built whole (25,090 states, 64 letters). The solvers take turns in each of several rounds. Each has its median and its least time, which a
+//! busy machine moves less, and both as ratios to the plain one's. `bench [ROUNDS]`, 15 rounds unless said.
 
 use pelohuaki_bench::reading::{Building, Decision, Question};
 use pelohuaki_bench::{plain, reading, vectors};
@@ -39,13 +39,14 @@ fn reading_build(bytes: &[u8], keys: &mut [i32], table: &mut [u16]) -> Building 
     built.answer
 }
 
-fn median(mut times: Vec<f64>) -> f64 {
-    times.sort_by(f64::total_cmp);
-    times[times.len() / 2]
+/// The median and the least of a solver's rounds, in nanoseconds.
+struct Time {
+    median: f64,
+    least: f64,
 }
 
-/// Runs each solver once a round, in turn, and gives each one's median in nanoseconds.
-fn medians(rounds: usize, solvers: &[Solver], mut once: impl FnMut(&Solver)) -> Vec<f64> {
+/// Runs each solver once a round, in turn.
+fn times(rounds: usize, solvers: &[Solver], mut once: impl FnMut(&Solver)) -> Vec<Time> {
     let mut times: Vec<Vec<f64>> = solvers.iter().map(|_| Vec::new()).collect();
     for round in 0..rounds {
         for (solver, times) in solvers.iter().zip(&mut times) {
@@ -56,18 +57,28 @@ fn medians(rounds: usize, solvers: &[Solver], mut once: impl FnMut(&Solver)) -> 
             }
         }
     }
-    times.into_iter().map(median).collect()
+    for times in &mut times {
+        times.sort_by(f64::total_cmp);
+    }
+    times.iter().map(|times| Time { median: times[times.len() / 2], least: times[0] }).collect()
 }
 
-fn report(title: &str, solvers: &[Solver], medians: &[f64], transitions: usize, calls: usize) {
-    println!("{title}: {calls} calls, {transitions} transitions");
-    for (solver, &time) in solvers.iter().zip(medians) {
+fn report(title: &str, solvers: &[Solver], times: &[Time], transitions: usize, calls: usize) {
+    println!("{title}: calls {calls}, transitions {transitions}");
+    println!("             ns a transition         us a call           x plain");
+    println!("             median    least     median      least    median  least");
+    for (solver, time) in solvers.iter().zip(times) {
+        let transition = |time: f64| time / transitions as f64;
+        let call = |time: f64| time / calls as f64 / 1_000.0;
         println!(
-            "  {:8} {:9.2} ns a transition {:12.2} us a call {:9.2} x plain",
+            "  {:8} {:8.2} {:8.2} {:10.2} {:10.2} {:8.2} {:7.2}",
             solver.name,
-            time / transitions as f64,
-            time / calls as f64 / 1_000.0,
-            time / medians[0]
+            transition(time.median),
+            transition(time.least),
+            call(time.median),
+            call(time.least),
+            time.median / times[0].median,
+            time.least / times[0].least
         );
     }
 }
@@ -89,19 +100,19 @@ fn main() {
             assert_eq!((solver.decide)(question, &mut keys, &mut path, &mut word), *expected, "{}", solver.name);
         }
     }
-    let times = medians(rounds, &solvers, |solver| {
+    let blocks = times(rounds, &solvers, |solver| {
         for question in &questions {
             black_box((solver.decide)(black_box(question), &mut keys, &mut path, &mut word));
         }
     });
-    report("list blocks, decided", &solvers, &times, transitions, questions.len());
+    report("list blocks, decided", &solvers, &blocks, transitions, questions.len());
 
     let states = 25_090;
     let mut keys = vec![0; states * 5];
     let mut table = vec![0; states * 65];
-    let times = medians(rounds, &solvers, |solver| {
+    let coconuts = times(rounds, &solvers, |solver| {
         let answer = (solver.build)(black_box(vectors::COCONUTS), &mut keys, &mut table);
         assert_eq!(answer, Building::Built { states }, "{}", solver.name);
     });
-    report("coconuts, built whole", &solvers, &times, states * 64, 1);
+    report("coconuts, built whole", &solvers, &coconuts, states * 64, 1);
 }
