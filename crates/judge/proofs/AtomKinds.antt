@@ -1,9 +1,9 @@
 -- Codes of atoms and their kinds, and comparisons of numbers by their bits.
-use Prim.Native.Nat.{ℕ, _+_, _≤_, _<_}
+use Prim.Native.Nat.{ℕ, _+_, _<_}
 use native.Mathlib.Omega.{arith}
 use mathlib.Core.Path.{_≡_, refl, sym, ap, _∙_}
 use mathlib.Core.Bool.{Bool, true, false, cond}
-use mathlib.Core.List.{List, [], _∷_, map}
+use mathlib.Core.List.{List, _∷_, map}
 use lib.ListN.{length, getD, drop}
 use lib.IntN.{ℤ}
 use lib.Dec.{T, eqb, eqb→eq, eqb-refl}
@@ -12,7 +12,7 @@ use mir.Val.{SFits, toZ, ofZ}
 use mir.ValLaws.{toZ-ofZ}
 use borrow.Author.Tests.{ne-eqb}
 use Rattle.scope.specs.Whole.{eqZ}
-use Rattle.scope.specs.Question.{Kind, equation, atMost, Node, unused, atom, nodeOf, isAtom, kindsOf}
+use Rattle.scope.specs.Question.{equation, atMost, Node, unused, atom, nodeOf, isAtom, kindsOf}
 use Rattle.theory.specs.Integers.{eqZ→eq, eq→eqZ}
 use Rattle.theory.specs.Meaning.{same-test}
 use Rattle.formula.specs.Parts.{node-first}

@@ -1,5 +1,5 @@
 -- The worths of a question's atoms, noted one by one: what holds after some atoms, and after all of them.
-use Prim.Native.Nat.{ℕ, suc, _+_, _*_, _≤_, _<_}
+use Prim.Native.Nat.{ℕ, _+_, _*_, _≤_, _<_}
 use native.Mathlib.Numerals.{add-one}
 use native.Mathlib.Decide.{decLt}
 use native.Mathlib.Omega.{arith}
@@ -7,11 +7,11 @@ use mathlib.Core.Path.{_≡_, refl, sym, ap, _∙_}
 use mathlib.Core.Logic.{by-cases}
 use mathlib.Core.Bool.{Bool, true, false}
 use mathlib.Core.List.{List, [], _∷_, _++_, map, append-nil}
-use lib.ListN.{length, getD, set, take, drop, replicate, length-set, length-take, length-drop, length-map, getD-replicate, drop-of-length-le, List·getD-eq-default}
+use lib.ListN.{length, getD, set, take, drop, replicate, length-set, length-take, length-map, getD-replicate, drop-of-length-le, List·getD-eq-default}
 use lib.Seq.{take-suc-set, append-snoc, getD-set-other, getD-take, getD-drop}
-use lib.IntN.{ℤ, pos, natAbs}
+use lib.IntN.{ℤ, pos}
 use Rattle.scope.specs.declared.Question.{Question}
-use Rattle.scope.specs.Sizes.{mostCoefficient, mostValue}
+use Rattle.scope.specs.Sizes.{mostCoefficient}
 use Rattle.scope.specs.Question.{Kind, equation, Node, nodeOf, isAtom, nodesOf, kindsOf, Atom, coefficientsOf, constantOf, atomsFrom, atomsOf}
 use Rattle.scope.specs.States.{dot, compares, holds, formulaWorth, satisfied}
 use Rattle.theory.specs.Sums.{small-getD}

@@ -1,10 +1,10 @@
 -- Sums of products: how large they are, and one term more.
-use Prim.Native.Nat.{ℕ, zero, suc, _+_, _*_, _-_, _^_, _≤_, _<_}
+use Prim.Native.Nat.{ℕ, suc, _+_, _*_, _≤_, _<_}
 use native.Mathlib.Nat.{mul-le-mul}
 use native.Mathlib.Omega.{arith}
-use mathlib.Core.Path.{_≡_, refl, sym, ap, _∙_}
+use mathlib.Core.Path.{_≡_, refl, sym}
 use mathlib.Core.List.{List, [], _∷_}
-use lib.ListN.{length, getD, take, drop, length-take, length-drop}
+use lib.ListN.{length, getD, drop, length-take, length-drop}
 use lib.Seq.{drop-length, drop-cons, getD-take, getD-drop}
 use lib.IntN.{ℤ, pos, natAbs, _+ℤ_, _*ℤ_}
 use mir.Syntax.{w32, w64}

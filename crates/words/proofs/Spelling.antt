@@ -1,7 +1,7 @@
 -- The answers of spelling, by the first check that fails.
-use Prim.Native.Nat.{ℕ, _-_, _≤_}
+use Prim.Native.Nat.{ℕ, _-_}
 use mathlib.Core.Path.{_≡_}
-use mathlib.Core.Bool.{Bool, true, false, _&&_}
+use mathlib.Core.Bool.{true, false, _&&_}
 use lib.ListN.{length}
 use lib.Dec.{leb}
 use Rattle.scope.specs.declared.SpellAnswer.{SpellAnswer}

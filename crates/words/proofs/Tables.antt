@@ -1,5 +1,5 @@
 -- A table that has passed its check: where a row ends, and that every next state is a row.
-use Prim.Native.Nat.{ℕ, zero, suc, _+_, _*_, _/_, _%_, _^_, _≤_, _<_}
+use Prim.Native.Nat.{ℕ, _+_, _*_, _/_, _%_, _^_, _≤_, _<_}
 use native.Mathlib.Nat.{zero-add, mul-le-mul-right, div-add-mod', add-mul}
 use native.Mathlib.Numerals.{add-one}
 use native.Mathlib.Omega.{arith}
@@ -12,7 +12,6 @@ use lib.Dec.{leb, ltb, eqb}
 use lib.Arith.{digits-mod}
 use borrow.Author.Tests.{eqb-true, leb-true, ltb-true, eq-eqb, ne-eqb}
 use Rattle.scope.specs.Whole.{allFrom}
-use Rattle.scope.specs.Words.{lettersFit}
 use Rattle.scope.specs.Building.{tableWidth}
 use Rattle.scope.specs.Running.{tableRows, cellFits, tableFits, rowAfter}
 use Rattle.words.specs.Tables.{Runs}

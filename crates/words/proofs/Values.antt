@@ -1,9 +1,9 @@
 -- What a word spells from a letter on, and that it fits 64 bits.
-use Prim.Native.Nat.{ℕ, suc, _+_, _*_, _^_, _-_, _≤_, _<_}
+use Prim.Native.Nat.{ℕ, suc, _+_, _*_, _^_, _≤_, _<_}
 use native.Mathlib.Nat.{pow-succ', pow-le-pow-right}
 use native.Mathlib.Omega.{arith}
 use mathlib.Core.Path.{_≡_, ap, _∙_}
-use mathlib.Core.List.{List, [], _∷_}
+use mathlib.Core.List.{[], _∷_}
 use lib.ListN.{length, getD, drop, length-drop}
 use lib.Seq.{drop-cons}
 use Rattle.scope.specs.Words.{Word, digit, value, valueFrom}

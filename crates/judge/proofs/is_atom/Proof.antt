@@ -1,8 +1,6 @@
 -- `judge::is_atom` meets its contract. Assumes nothing.
 use mathlib.Core.Path.{sym, ap, _∙_}
-use mathlib.Core.Bool.{Bool}
 use Prim.Native.Nat.{ℕ}
-use lib.Dec.{eqb}
 use borrow.Author.Tests.{eq-eqb}
 use Rattle.scope.specs.Question.{nodeOf, isAtom}
 use Rattle.judge.proofs.AtomKinds.{other-code}

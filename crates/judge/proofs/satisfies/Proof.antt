@@ -1,5 +1,5 @@
 -- `judge::satisfies` meets its contract. Assumes nothing.
-use mathlib.Core.Path.{_≡_, sym, ap, _∙_, subst}
+use mathlib.Core.Path.{sym, ap, _∙_, subst}
 use borrow.Author.Needs.{needs}
 use Rattle.scope.specs.declared.Question.{Question}
 use Rattle.scope.specs.States.{satisfied}

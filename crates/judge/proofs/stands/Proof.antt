@@ -1,5 +1,4 @@
 -- `judge::stands` meets its contract. Assumes nothing.
-use mathlib.Core.Path.{sym, _∙_}
 use mir.ValLaws.{toZ-ofZ}
 use borrow.Author.Tests.{eq-eqb, ne-eqb}
 use Rattle.judge.proofs.AtomKinds.{same-bits, widened}
