@@ -1,0 +1,4 @@
+-- Laws that the proofs of the loop cite.
+pub mod Cells
+pub mod Steps
+pub mod Ends

@@ -1,0 +1,5 @@
+-- The machine that the code explores, the lent areas, where the loop stands, and what it leaves.
+pub mod Machine
+pub mod Areas
+pub mod Standing
+pub mod Outcome

@@ -1,0 +1,126 @@
+// The numbering loop that deciding and building share: row by row, each letter in order, a state that has no row yet gets the next one.
+use formula::formula_worth;
+use index::add;
+use index::find;
+use index::rebuild;
+use step::step_row;
+use step::worths_at;
+ghost use mathlib.Core.Path.{_≡_};
+ghost use mathlib.Core.Bool.{true, _&&_};
+ghost use mathlib.Core.List.{map};
+ghost use Prim.Native.Nat.{_+_, _*_, _≤_, _<_};
+ghost use lib.ListN.{length, take};
+ghost use Rattle.scope.specs.Question.{nodeOf};
+ghost use Rattle.scope.specs.States.{formulaWorth};
+ghost use Rattle.step.specs.Cells.{worthCells};
+ghost use Rattle.index.specs.Index.{Indexed};
+ghost use Rattle.explore.specs.Machine.{cellMachine};
+ghost use Rattle.explore.specs.Areas.{pathCount, pathWith, RowRoom};
+ghost use Rattle.explore.specs.Standing.{Task, Linked, Stands, Moved, RowFits, RowAdded, Tried, Ended};
+
+// Where exploring stands: the rows so far, and the row and the letter that come next.
+pub struct Stand {
+    pub count: usize,
+    pub row: usize,
+    pub letter: usize,
+    // It goes no further: the letter leads to a new state, which accepts, or else has no row left.
+    pub stopped: bool,
+    pub accepted: bool,
+}
+
+impl Stand {
+    // After a letter of a row: the next letter, or the next row.
+    fn after(letters: usize, count: usize, row: usize, letter: usize) -> Stand
+        requires { ⌜ (letter < letters) × (letters ≤ 64) × (row < 65535) ⌝ }
+        ensures { λ r. ⌜ Moved letters count row letter r ⌝ }
+    {
+        let a = letter + 1;
+        if a < letters {
+            return Stand {
+                count,
+                row,
+                letter: a,
+                stopped: false,
+                accepted: false,
+            };
+        }
+        Stand {
+            count,
+            row: row + 1,
+            letter: 0,
+            stopped: false,
+            accepted: false,
+        }
+    }
+}
+
+// How exploring ended: at a state that accepts, with a row for every reachable state, or for want of rows; and the rows that are filled.
+pub enum Explored {
+    Found { states: usize },
+    All { states: usize },
+    NoRoom { states: usize },
+}
+
+// Deciding: the row and the letter from which row count is numbered.
+fn put_path(path: &mut [u16], deciding: bool, count: usize, row: usize, letter: usize)
+    requires { ⌜ (pathCount deciding (count + 1) ≤ length (now path)) × (count < 65535) × (row < 65535) × (letter < 64) ⌝ }
+    ensures { λ _. ⌜ now (path .exit) ≡ pathWith deciding (now (path .entry)) count row letter ⌝ }
+{
+    if deciding {
+        let at = 2 * count;
+        path[at] = row as u16;
+        path[at + 1] = letter as u16;
+    }
+}
+
+// Whether the key row that starts at cell `at` accepts.
+pub fn accepts(codes: &[u8; 64], kinds: &[u8; 8], m: usize, keys: &[i32], at: usize) -> bool
+    requires { ⌜ (length (now codes) ≡ 64) × (m ≤ 8) × (at + m ≤ length (now keys)) ⌝ }
+    ensures { λ r. ⌜ r ≡ formulaWorth (map nodeOf (now (codes .entry))) (worthCells (now (kinds .entry)) m (now (keys .entry)) at) ⌝ }
+{
+    let worths = worths_at(kinds, m, keys, at);
+    formula_worth(codes, &worths)
+}
+
+// The same where deciding asks for it, and else false.
+fn asks_accepts(
+    codes: &[u8; 64],
+    kinds: &[u8; 8],
+    m: usize,
+    keys: &[i32],
+    at: usize,
+    deciding: bool,
+) -> bool
+    requires { ⌜ (length (now codes) ≡ 64) × (m ≤ 8) × (at + m ≤ length (now keys)) ⌝ }
+    ensures { λ r. ⌜ r ≡ deciding && formulaWorth (map nodeOf (now (codes .entry))) (worthCells (now (kinds .entry)) m (now (keys .entry)) at) ⌝ }
+{
+    if deciding {
+        return accepts(codes, kinds, m, keys, at);
+    }
+    false
+}
+
+// Numbers the key's state as row count, from a letter of a row; and whether deciding finds that it accepts.
+fn add_row(
+    codes: &[u8; 64],
+    kinds: &[u8; 8],
+    m: usize,
+    keys: &mut [i32],
+    path: &mut [u16],
+    head: &mut [u16],
+    next: &mut [u16],
+    deciding: bool,
+    key: &[i32; 8],
+    count: usize,
+    row: usize,
+    letter: usize,
+) -> bool
+    requires { ⌜ Indexed (now keys) m (now head) (now next) count ⌝ }
+    requires { ⌜ RowRoom m deciding count (now key) (now keys) (now path) ⌝ }
+    requires { ⌜ RowFits (now codes) m (now next) count row letter ⌝ }
+    ensures { λ r. ⌜ RowAdded (now (codes .entry)) (now (kinds .entry)) m deciding (now (key .entry)) count row letter (now (keys .entry)) (now (path .entry)) (now (keys .exit)) (now (path .exit)) (now (head .exit)) (now (next .exit)) r ⌝ }
+{
+    add(keys, m, key, head, next, count);
+    put_path(path, deciding, count, row, letter);
+    asks_accepts(codes, kinds, m, keys, count * m, deciding)
+}
