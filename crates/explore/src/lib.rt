@@ -124,3 +124,64 @@ fn add_row(
     put_path(path, deciding, count, row, letter);
     asks_accepts(codes, kinds, m, keys, count * m, deciding)
 }
+
+// Tries a letter at a row: its target has a row already, or gets the next one, or there is none left.
+fn try_letter(
+    codes: &[u8; 64],
+    kinds: &[u8; 8],
+    m: usize,
+    sums: &[i32; 512],
+    letters: usize,
+    keys: &mut [i32],
+    path: &mut [u16],
+    head: &mut [u16],
+    next: &mut [u16],
+    rows: usize,
+    deciding: bool,
+    count: usize,
+    row: usize,
+    letter: usize,
+) -> Stand
+    requires { ⌜ Task (now codes) m (now sums) letters ⌝ }
+    requires { ⌜ Stands (cellMachine (now codes) (now kinds) m (now sums) letters (take m (now keys))) m rows deciding (now keys) (now path) count row letter ⌝ }
+    requires { ⌜ Linked m rows (now keys) (now head) (now next) count ⌝ }
+    requires { ⌜ row < count ⌝ }
+    ensures { λ r. ⌜ Tried (cellMachine (now (codes .entry)) (now (kinds .entry)) m (now (sums .entry)) letters (take m (now (keys .entry)))) m rows deciding (now (keys .entry)) (now (path .entry)) count row letter (now (keys .exit)) (now (path .exit)) (now (head .exit)) (now (next .exit)) r ⌝ }
+{
+    let key = step_row(kinds, m, sums, letter, keys, row * m);
+    if find(keys, m, &key, head, next, count) < count {
+        return Stand::after(letters, count, row, letter);
+    }
+    if count == rows {
+        return Stand {
+            count,
+            row,
+            letter,
+            stopped: true,
+            accepted: false,
+        };
+    }
+    if add_row(
+        codes,
+        kinds,
+        m,
+        keys,
+        path,
+        head,
+        next,
+        deciding,
+        &key,
+        count,
+        row,
+        letter,
+    ) {
+        return Stand {
+            count: count + 1,
+            row,
+            letter,
+            stopped: true,
+            accepted: true,
+        };
+    }
+    Stand::after(letters, count + 1, row, letter)
+}
