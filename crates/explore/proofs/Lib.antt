@@ -2,4 +2,5 @@
 pub mod Cells
 pub mod Steps
 pub mod Trying
+pub mod Going
 pub mod Ends

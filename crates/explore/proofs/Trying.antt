@@ -26,17 +26,19 @@ use Rattle.explore.proofs.Cells.{step-of-row}
 use Rattle.explore.proofs.Steps.{goes-on, old-row, is-old, is-new, new-row, found-row}
 
 -- M is a machine of key rows, of what the code is handed
-pub record Runs (codes kinds : List ℕ) (m : ℕ) (sums : List ℤ) (letters : ℕ) (M : Machine (List ℤ)) : Type 0 where
+pub record Runs (codes kinds : List ℕ) (m : ℕ) (sums : List ℤ) (letters : ℕ) (start : List ℤ) (M : Machine (List ℤ)) : Type 0 where
   pub lawful : Lawful M
   pub letters-are : M .letters ≡ letters
+  pub start-is : M .start ≡ start
   pub steps : (cells : List ℤ) (letter : ℕ) → M .step cells letter ≡ stepCells kinds m sums letter cells 0
   pub accepts-are : (cells : List ℤ) → M .accepts cells ≡ formulaWorth (map nodeOf codes) (worthCells kinds m cells 0)
   pub rows-good : SumsFit m sums letters → KeyRow m (M .start) → (i a : ℕ) → a ≤ letters → AllGood (KeyRow m) (partial M i a)
 
-pub cell-runs : (codes kinds : List ℕ) (m : ℕ) (sums : List ℤ) (letters : ℕ) (start : List ℤ) → Runs codes kinds m sums letters (cellMachine codes kinds m sums letters start)
+pub cell-runs : (codes kinds : List ℕ) (m : ℕ) (sums : List ℤ) (letters : ℕ) (start : List ℤ) → Runs codes kinds m sums letters start (cellMachine codes kinds m sums letters start)
 cell-runs codes kinds m sums letters start = record {
   lawful = cell-lawful codes kinds m sums letters start;
   letters-are = cell-letters codes kinds m sums letters start;
+  start-is = cell-start codes kinds m sums letters start;
   steps = cell-step codes kinds m sums letters start;
   accepts-are = cell-accepts codes kinds m sums letters start;
   rows-good = λ f k. partial-rows codes kinds m sums letters start f (rw (cell-start codes kinds m sums letters start) at k);
@@ -60,7 +62,7 @@ further : {letters i a i′ a′ : ℕ} → letters ≤ 64 → After letters i a
 further h (next-letter p) = omega arith
 further h (next-row p) = omega arith
 
-module _ {codes kinds : List ℕ} {m : ℕ} {sums : List ℤ} {letters : ℕ} {M : Machine (List ℤ)} (runs : Runs codes kinds m sums letters M) {rows : ℕ} {deciding : Bool} {keys : List ℤ} {path : List ℕ} {count i a : ℕ}
+module _ {codes kinds : List ℕ} {m : ℕ} {sums : List ℤ} {letters : ℕ} {start : List ℤ} {M : Machine (List ℤ)} (runs : Runs codes kinds m sums letters start M) {rows : ℕ} {deciding : Bool} {keys : List ℤ} {path : List ℕ} {count i a : ℕ}
     (task : Task codes m sums letters) (s : Stands M m rows deciding keys path count i a) (below : i < count) where
   pub letter-below : a < letters
   letter-below = rw (runs .letters-are) at (s .letter-ok)

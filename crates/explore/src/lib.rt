@@ -185,3 +185,56 @@ fn try_letter(
     }
     Stand::after(letters, count + 1, row, letter)
 }
+
+// Tries letter after letter and row after row, from a letter of a row on, until a state is accepted, no row is left, or every row is expanded.
+fn explore(
+    codes: &[u8; 64],
+    kinds: &[u8; 8],
+    m: usize,
+    sums: &[i32; 512],
+    letters: usize,
+    keys: &mut [i32],
+    path: &mut [u16],
+    head: &mut [u16],
+    next: &mut [u16],
+    rows: usize,
+    deciding: bool,
+    count: usize,
+    row: usize,
+    letter: usize,
+) -> Stand
+    requires { ⌜ Task (now codes) m (now sums) letters ⌝ }
+    requires { ⌜ Stands (cellMachine (now codes) (now kinds) m (now sums) letters (take m (now keys))) m rows deciding (now keys) (now path) count row letter ⌝ }
+    requires { ⌜ Linked m rows (now keys) (now head) (now next) count ⌝ }
+    ensures { λ r. ⌜ Ended (cellMachine (now (codes .entry)) (now (kinds .entry)) m (now (sums .entry)) letters (take m (now (keys .entry)))) m rows deciding (now (keys .entry)) (now (path .entry)) count (now (keys .exit)) (now (path .exit)) r ⌝ }
+{
+    let mut s = Stand {
+        count,
+        row,
+        letter,
+        stopped: false,
+        accepted: false,
+    };
+    while s.row < s.count {
+        s = try_letter(
+            codes,
+            kinds,
+            m,
+            sums,
+            letters,
+            keys,
+            path,
+            head,
+            next,
+            rows,
+            deciding,
+            s.count,
+            s.row,
+            s.letter,
+        );
+        if s.stopped {
+            return s;
+        }
+    }
+    s
+}

@@ -9,7 +9,7 @@ use Rattle.explore.proofs.Trying.{Runs, cell-runs, letter-below, row-wi
 use Rattle.explore.proofs.try_letter.Statement.{statement}
 use Rattle.explore.proofs.try_letter.Tie as tie
 
-runs : (s : tie.Start) → Runs (s .args .codes .now) (s .args .kinds .now) (s .args .m) (s .args .sums .now) (s .args .letters)
+runs : (s : tie.Start) → Runs (s .args .codes .now) (s .args .kinds .now) (s .args .m) (s .args .sums .now) (s .args .letters) (take (s .args .m) (s .args .keys .now))
     (cellMachine (s .args .codes .now) (s .args .kinds .now) (s .args .m) (s .args .sums .now) (s .args .letters) (take (s .args .m) (s .args .keys .now)))
 runs s = cell-runs (s .args .codes .now) (s .args .kinds .now) (s .args .m) (s .args .sums .now) (s .args .letters) (take (s .args .m) (s .args .keys .now))
 
