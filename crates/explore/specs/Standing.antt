@@ -119,3 +119,8 @@ pub record RowFits (codes : List ℕ) (m : ℕ) (next : List ℕ) (count i a : �
   pub link : count < length next
   pub from : i < 65535
   pub letter : a < 64
+
+-- whether exploring with few rows stopped for want of rows, and there are more
+pub record Lacks (few rows : ℕ) (s : Stand) (r : Bool) : Type 0 where
+  pub yes : r ≡ true → (s .stopped ≡ true) × (s .accepted ≡ false) × (few < rows)
+  pub no : r ≡ false → s .stopped ≡ true → s .accepted ≡ false → rows ≤ few

@@ -16,7 +16,8 @@ ghost use Rattle.step.specs.Cells.{worthCells};
 ghost use Rattle.index.specs.Index.{Indexed};
 ghost use Rattle.explore.specs.Machine.{cellMachine};
 ghost use Rattle.explore.specs.Areas.{pathCount, pathWith, RowRoom};
-ghost use Rattle.explore.specs.Standing.{Task, Linked, Stands, Moved, RowFits, RowAdded, Tried, Ended};
+ghost use Rattle.explore.specs.Outcome.{exploredBy};
+ghost use Rattle.explore.specs.Standing.{Lacks, Task, Linked, Stands, Moved, RowFits, RowAdded, Tried, Ended};
 
 // Where exploring stands: the rows so far, and the row and the letter that come next.
 pub struct Stand {
@@ -51,6 +52,32 @@ impl Stand {
             stopped: false,
             accepted: false,
         }
+    }
+
+    // Whether it stopped for want of rows, and there are more.
+    fn lacks(self, few: usize, rows: usize) -> bool
+        ensures { λ r. ⌜ Lacks few rows self r ⌝ }
+    {
+        if self.stopped {
+            if self.accepted {
+                return false;
+            }
+            return few < rows;
+        }
+        false
+    }
+
+    fn explored(self) -> Explored
+        ensures { λ r. ⌜ r ≡ exploredBy (self .stopped) (self .accepted) (self .count) ⌝ }
+    {
+        let states = self.count;
+        if self.stopped {
+            if self.accepted {
+                return Explored::Found { states };
+            }
+            return Explored::NoRoom { states };
+        }
+        Explored::All { states }
     }
 }
 
@@ -237,4 +264,121 @@ fn explore(
         }
     }
     s
+}
+
+// The same with an index that is made anew.
+fn resume(
+    codes: &[u8; 64],
+    kinds: &[u8; 8],
+    m: usize,
+    sums: &[i32; 512],
+    letters: usize,
+    keys: &mut [i32],
+    path: &mut [u16],
+    head: &mut [u16],
+    next: &mut [u16],
+    rows: usize,
+    deciding: bool,
+    count: usize,
+    row: usize,
+    letter: usize,
+) -> Stand
+    requires { ⌜ Task (now codes) m (now sums) letters ⌝ }
+    requires { ⌜ Stands (cellMachine (now codes) (now kinds) m (now sums) letters (take m (now keys))) m rows deciding (now keys) (now path) count row letter ⌝ }
+    requires { ⌜ (0 < length (now head)) × (length (now head) ≤ 65536) × (rows ≤ length (now next)) ⌝ }
+    ensures { λ r. ⌜ Ended (cellMachine (now (codes .entry)) (now (kinds .entry)) m (now (sums .entry)) letters (take m (now (keys .entry)))) m rows deciding (now (keys .entry)) (now (path .entry)) count (now (keys .exit)) (now (path .exit)) r ⌝ }
+{
+    rebuild(keys, m, head, next, count);
+    explore(
+        codes,
+        kinds,
+        m,
+        sums,
+        letters,
+        keys,
+        path,
+        head,
+        next,
+        rows,
+        deciding,
+        count,
+        row,
+        letter,
+    )
+}
+
+// Explores from the start, with a small index: a small question does not pay for clearing a large one.
+fn explore_few(
+    codes: &[u8; 64],
+    kinds: &[u8; 8],
+    m: usize,
+    sums: &[i32; 512],
+    letters: usize,
+    keys: &mut [i32],
+    path: &mut [u16],
+    rows: usize,
+    deciding: bool,
+) -> Stand
+    requires { ⌜ Task (now codes) m (now sums) letters ⌝ }
+    requires { ⌜ Stands (cellMachine (now codes) (now kinds) m (now sums) letters (take m (now keys))) m rows deciding (now keys) (now path) 1 0 0 ⌝ }
+    requires { ⌜ rows ≤ 256 ⌝ }
+    ensures { λ r. ⌜ Ended (cellMachine (now (codes .entry)) (now (kinds .entry)) m (now (sums .entry)) letters (take m (now (keys .entry)))) m rows deciding (now (keys .entry)) (now (path .entry)) 1 (now (keys .exit)) (now (path .exit)) r ⌝ }
+{
+    let mut head = [65535u16; 256];
+    let mut next = [65535u16; 256];
+    resume(
+        codes,
+        kinds,
+        m,
+        sums,
+        letters,
+        keys,
+        path,
+        &mut head,
+        &mut next,
+        rows,
+        deciding,
+        1,
+        0,
+        0,
+    )
+}
+
+// Explores on from where it stands, with an index for all rows that there can be.
+fn explore_many(
+    codes: &[u8; 64],
+    kinds: &[u8; 8],
+    m: usize,
+    sums: &[i32; 512],
+    letters: usize,
+    keys: &mut [i32],
+    path: &mut [u16],
+    rows: usize,
+    deciding: bool,
+    count: usize,
+    row: usize,
+    letter: usize,
+) -> Stand
+    requires { ⌜ Task (now codes) m (now sums) letters ⌝ }
+    requires { ⌜ Stands (cellMachine (now codes) (now kinds) m (now sums) letters (take m (now keys))) m rows deciding (now keys) (now path) count row letter ⌝ }
+    ensures { λ r. ⌜ Ended (cellMachine (now (codes .entry)) (now (kinds .entry)) m (now (sums .entry)) letters (take m (now (keys .entry)))) m rows deciding (now (keys .entry)) (now (path .entry)) count (now (keys .exit)) (now (path .exit)) r ⌝ }
+{
+    let mut head = [65535u16; 65536];
+    let mut next = [65535u16; 65536];
+    resume(
+        codes,
+        kinds,
+        m,
+        sums,
+        letters,
+        keys,
+        path,
+        &mut head,
+        &mut next,
+        rows,
+        deciding,
+        count,
+        row,
+        letter,
+    )
 }

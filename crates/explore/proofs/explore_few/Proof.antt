@@ -1,0 +1,12 @@
+-- `explore::explore_few` meets its contract: its index has 256 buckets and links. Assumes nothing.
+use borrow.Author.Needs.{needs}
+use lib.Dec.{lit<, lit≤}
+use Rattle.explore.proofs.explore_few.Statement.{statement}
+use Rattle.explore.proofs.explore_few.Tie as tie
+
+resume-requires : tie.Need-resume-requires
+resume-requires c κs = let p = c .before .before .before .before .before .pre in (p .0, (p .1 .0, (lit< tt, lit≤ tt, p .1 .1)))
+
+pub explore-few-spec : {M : Type 1} → statement M
+explore-few-spec =
+    tie.close (tie.spec (λ c. search needs) (λ c. search needs) resume-requires (λ c. search needs) (λ c. search needs) (λ c. search needs))
