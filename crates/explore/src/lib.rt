@@ -8,7 +8,7 @@ use step::worths_at;
 ghost use mathlib.Core.Path.{_≡_};
 ghost use mathlib.Core.Bool.{true, _&&_};
 ghost use mathlib.Core.List.{map};
-ghost use Prim.Native.Nat.{_+_, _*_, _≤_, _<_};
+ghost use Prim.Native.Nat.{_+_, _*_, _≤_, _<_, min};
 ghost use lib.ListN.{length, take};
 ghost use Rattle.scope.specs.Question.{nodeOf};
 ghost use Rattle.scope.specs.States.{formulaWorth};
@@ -16,7 +16,7 @@ ghost use Rattle.step.specs.Cells.{worthCells};
 ghost use Rattle.index.specs.Index.{Indexed};
 ghost use Rattle.explore.specs.Machine.{cellMachine};
 ghost use Rattle.explore.specs.Areas.{pathCount, pathWith, RowRoom};
-ghost use Rattle.explore.specs.Outcome.{exploredBy};
+ghost use Rattle.explore.specs.Outcome.{exploredBy, Ready, Numbered};
 ghost use Rattle.explore.specs.Standing.{Lacks, Task, Linked, Stands, Moved, RowFits, RowAdded, Tried, Ended};
 
 // Where exploring stands: the rows so far, and the row and the letter that come next.
@@ -381,4 +381,53 @@ fn explore_many(
         row,
         letter,
     )
+}
+
+// As many of the rows as the small index has room for.
+fn few_of(rows: usize) -> usize
+    ensures { λ r. ⌜ r ≡ min rows 256 ⌝ }
+{
+    if rows < 256 {
+        return rows;
+    }
+    256
+}
+
+// Numbers the states from the start's, which is row 0 already, in at most so many rows. Deciding, it writes the path area and stops at the
+// first state that accepts, where the start does not; building, it leaves the path area alone and goes through all states.
+pub fn number_rows(
+    codes: &[u8; 64],
+    kinds: &[u8; 8],
+    m: usize,
+    sums: &[i32; 512],
+    letters: usize,
+    keys: &mut [i32],
+    path: &mut [u16],
+    rows: usize,
+    deciding: bool,
+) -> Explored
+    requires { ⌜ Task (now codes) m (now sums) letters ⌝ }
+    requires { ⌜ Ready (cellMachine (now codes) (now kinds) m (now sums) letters (take m (now keys))) m rows deciding (now keys) (now path) ⌝ }
+    ensures { λ r. ⌜ Numbered (cellMachine (now (codes .entry)) (now (kinds .entry)) m (now (sums .entry)) letters (take m (now (keys .entry)))) rows deciding (now (keys .entry)) (now (path .entry)) (now (keys .exit)) (now (path .exit)) r ⌝ }
+{
+    let few = few_of(rows);
+    let s = explore_few(codes, kinds, m, sums, letters, keys, path, few, deciding);
+    if s.lacks(few, rows) {
+        let t = explore_many(
+            codes,
+            kinds,
+            m,
+            sums,
+            letters,
+            keys,
+            path,
+            rows,
+            deciding,
+            s.count,
+            s.row,
+            s.letter,
+        );
+        return t.explored();
+    }
+    s.explored()
 }
