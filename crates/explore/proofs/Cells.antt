@@ -8,7 +8,7 @@ use native.Mathlib.Omega.{arith}
 use lib.ListN.{length, getD, take, replicate}
 use lib.IntN.{ℤ, pos}
 use Rattle.formula.specs.Alike.{Alike}
-use Rattle.step.specs.Eight.{listed, padded}
+use Rattle.step.specs.Eight.{listed, padded, getD-padded}
 use Rattle.step.specs.Cells.{kindOf, stepCell, worthCell, stepCells, worthCells}
 use Rattle.explore.specs.Areas.{Stored, RowRoom}
 use Rattle.index.specs.Rows.{rowAt, row-cell, stored-row}
@@ -31,20 +31,8 @@ module _ (kinds : List ℕ) (m : ℕ) (keys : List ℤ) (s : ℕ) where
   step-of-row sums letter =
       listed-ext _ _ m (λ i h. ap (λ (z : ℤ). stepCell (kindOf (getD kinds i 0)) z (getD sums (8 * letter + i) (pos 0))) (cell-of i h))
 
--- false past the ends
-falses : (n i : ℕ) → getD (replicate n false) i false ≡ false
-falses zero i = refl
-falses (suc n) zero = refl
-falses (suc n) (suc i) = falses n i
-
-filled : (l : List Bool) (n : ℕ) → Alike (l ++ replicate n false) l
-filled [] n i = falses n i
-filled (b ∷ l) n zero = refl
-filled (b ∷ l) n (suc i) = filled l n i
-
 pub alike-padded : (l : List Bool) → Alike (padded false l) l
-unfolding padded
-alike-padded l = filled l (8 - length l)
+alike-padded l i = getD-padded false l i
 
 -- a row that was stored is worth what its key is
 pub stored-worths : (kinds : List ℕ) {m : ℕ} {deciding : Bool} {count : ℕ} {key : List ℤ} {from letter : ℕ} {keys : List ℤ} {path : List ℕ} {keys′ : List ℤ} {path′ : List ℕ}

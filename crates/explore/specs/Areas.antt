@@ -7,13 +7,14 @@ use mathlib.Core.List.{List, [], _∷_, _++_, map, map-append, append-assoc, app
 use native.Mathlib.Nat.{suc-mul, add-sub-of-le, mul-le-mul-right}
 use native.Mathlib.Numerals.{add-one}
 use native.Mathlib.Omega.{arith}
-use lib.ListN.{length, getD, take, drop, set, length-append, length-map, length-set, take-append-drop, length-drop}
+use lib.ListN.{length, getD, take, drop, set, length-append, length-take, length-set, take-append-drop, length-drop}
 use lib.Seq.{take-all, take-set-le, take-suc-set, drop-set-lt, length-take-le, drop-drop, drop-at, take-paste, drop-paste, paste}
 use lib.IntN.{ℤ}
 use Rattle.scope.specs.Whole.{joined, atFront}
 use Rattle.scope.specs.Numbering.{Machine, Row, Rows, startRow, row}
 use Rattle.theory.specs.Simulation.{AllGood, good-[], good-∷}
-use Rattle.index.specs.Rows.{rowAt, Wide, joined-append, joined-row}
+use Rattle.theory.specs.Joined.{joined-length}
+use Rattle.index.specs.Rows.{rowAt, joined-append, filled-row}
 use Rattle.explore.specs.Machine.{KeyRow}
 
 -- ---- rows as they stand in the areas
@@ -96,25 +97,21 @@ module _ {m : ℕ} {deciding : Bool} {l : Rows (List ℤ)} {count : ℕ} {keys�
 
 -- ---- a row of the key area is a row's state
 
-wide : (m : ℕ) {l : Rows (List ℤ)} → AllGood (KeyRow m) l → Wide m (map (λ (r : Row (List ℤ)). r .state) l)
-wide m good-[] i h = absurd (omega arith)
-wide m (good-∷ k ks) zero h = k .width
-wide m (good-∷ k ks) (suc i) h = wide m ks i (omega arith)
-
-state-at : (M : Machine (List ℤ)) (l : Rows (List ℤ)) (t : ℕ) → t < length l → getD (map (λ (r : Row (List ℤ)). r .state) l) t [] ≡ row M l t .state
-state-at M [] t h = absurd (omega arith)
-state-at M (r ∷ l) zero h = refl
-state-at M (r ∷ l) (suc t) h = state-at M l t (omega arith)
+wide : (M : Machine (List ℤ)) (m : ℕ) {l : Rows (List ℤ)} → AllGood (KeyRow m) l → (t : ℕ) → t < length l → length (row M l t .state) ≡ m
+wide M m good-[] t h = absurd (omega arith)
+wide M m (good-∷ k ks) zero h = k .width
+wide M m (good-∷ k ks) (suc t) h = wide M m ks t (omega arith)
 
 pub held-row : (M : Machine (List ℤ)) (m : ℕ) {deciding : Bool} {l : Rows (List ℤ)} {count : ℕ} {keys : List ℤ} {path : List ℕ}
     → Held m deciding l count keys path → AllGood (KeyRow m) l → (t : ℕ) → t < count → rowAt keys m t ≡ row M l t .state
 unfolding rowCells
 held-row M m {l = l} {count} {keys} held ok t h =
-    let states = map (λ (r : Row (List ℤ)). r .state) l in
-    let p : t < length l = omega (arith, held .count-is) in
-    let q : t < length states = rw (length-map l (λ (r : Row (List ℤ)). r .state)) p in
-    let e : keys ≡ joined states ++ drop (count * m) keys = sym (take-append-drop (count * m) keys) ∙ ap (λ (k : List ℤ). k ++ drop (count * m) keys) (held .keys-hold) in
-    ap (λ (k : List ℤ). rowAt k m t) e ∙ joined-row m states (drop (count * m) keys) t (wide m ok) q ∙ state-at M l t p
+    let e : take (count * m) keys ≡ joined (map (λ (r : Row (List ℤ)). r .state) l) = held .keys-hold in
+    let n : length (joined (map (λ (r : Row (List ℤ)). r .state) l)) ≡ count * m =
+    rw (held .count-is) at (joined-length (λ (r : Row (List ℤ)). r .state) m (startRow M) l (wide M m ok)) in
+    let room : count * m ≤ length keys = omega (arith, length-take (count * m) keys, ap length e) in
+    ap (λ (k : List ℤ). rowAt k m t) (front-is keys (count * m) room e refl)
+    ∙ filled-row (λ (r : Row (List ℤ)). r .state) m (startRow M) l keys t (wide M m ok) (omega (arith, held .count-is))
 
 -- ---- one row more
 
