@@ -3,3 +3,4 @@ pub mod Machine
 pub mod Areas
 pub mod Standing
 pub mod Outcome
+pub mod Simulated
