@@ -1,11 +1,11 @@
 -- A row in the key area steps and is worth what its cells by themselves do; worths in an array of eight settle the formula alike.
-use Prim.Native.Nat.{ℕ, zero, suc, _+_, _-_, _*_, _≤_, _<_}
+use Prim.Native.Nat.{ℕ, zero, suc, _+_, _*_, _<_}
 use mathlib.Core.Path.{_≡_, refl, sym, ap, ap₂, _∙_}
-use mathlib.Core.Bool.{Bool, true, false}
+use mathlib.Core.Bool.{Bool, false}
 use mathlib.Core.List.{List, [], _∷_, _++_}
 use native.Mathlib.Nat.{zero-add}
 use native.Mathlib.Omega.{arith}
-use lib.ListN.{length, getD, take, replicate}
+use lib.ListN.{getD, take}
 use lib.IntN.{ℤ, pos}
 use Rattle.formula.specs.Alike.{Alike}
 use Rattle.step.specs.Eight.{listed, padded, getD-padded}

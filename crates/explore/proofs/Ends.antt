@@ -1,5 +1,5 @@
 -- By its ends exploring knows the verdict over the rows lent, and the areas hold the rows of every state counted.
-use Prim.Native.Nat.{ℕ, zero, suc, _+_, _*_, _≤_, _<_}
+use Prim.Native.Nat.{ℕ, suc, _*_, _≤_, _<_}
 use mathlib.Core.Path.{_≡_, refl, sym, ap, _∙_}
 use mathlib.Core.Logic.{by-cases}
 use mathlib.Core.Bool.{Bool, true, false}
@@ -10,17 +10,15 @@ use native.Mathlib.Nat.{mul-le-mul-right}
 use native.Mathlib.Omega.{arith}
 use borrow.Author.Tests.{le-leb, lt-leb}
 use lib.ListN.{length}
-use lib.Dec.{leb}
 use lib.IntN.{ℤ}
 use Rattle.scope.specs.Numbering.{Machine, Rows, numbered}
-use Rattle.scope.specs.Deciding.{Verdict, found, never, noRoom, verdictBy, verdict, counted}
+use Rattle.scope.specs.Deciding.{Verdict, found, never, noRoom, counted}
 use Rattle.theory.specs.Lawful.{Lawful}
-use Rattle.theory.specs.Verdicts.{NoneOf}
-use Rattle.theory.specs.Exploring.{partial, New, grown, grown-length, partial-zero, partial-longer, found-end, found-counted, no-room-end, no-room-more, no-room-taken, never-end, all-fit, all-rows}
+use Rattle.theory.specs.Exploring.{partial, grown-length, partial-zero, partial-longer, found-end, found-counted, no-room-end, no-room-more, no-room-taken, never-end, all-fit, all-rows}
 use Rattle.explore.specs.declared.Stand.{Stand}
 use Rattle.explore.specs.declared.Explored.{Explored}
 use Rattle.explore.specs.Areas.{pathCount, path-count-le, Held, Kept, keys-front, path-front}
-use Rattle.explore.specs.Standing.{Stands, FoundAt, FullAt, StandsBy, Went, Ended}
+use Rattle.explore.specs.Standing.{Stands, FoundAt, FullAt, StandsBy, Ended}
 use Rattle.explore.specs.Outcome.{outcome, exploredAs, exploredBy, Numbered}
 use Rattle.explore.proofs.Steps.{has-begun}
 

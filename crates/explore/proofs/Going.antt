@@ -1,10 +1,10 @@
 -- Exploring in its loop: it stands somewhere and has not stopped; one letter more takes it further, or to an end.
 use Prim.Native.Nat.{ℕ, _+_, _*_, _-_, _≤_, _<_}
-use mathlib.Core.Path.{_≡_, refl, sym, _∙_}
+use mathlib.Core.Path.{_≡_, refl, _∙_}
 use mathlib.Core.Bool.{Bool, true, false}
 use mathlib.Core.List.{List}
 use native.Mathlib.Omega.{arith}
-use lib.ListN.{length, take}
+use lib.ListN.{take}
 use lib.IntN.{ℤ}
 use Rattle.scope.specs.Numbering.{Machine}
 use Rattle.explore.specs.declared.Stand.{Stand}

@@ -1,20 +1,20 @@
 -- The two stages of exploring: it begins at the start's row with few rows, and goes on, where these are full, with all.
-use Prim.Native.Nat.{ℕ, zero, suc, _+_, _*_, _≤_, _<_}
-use mathlib.Core.Path.{_≡_, refl, sym, ap, _∙_}
+use Prim.Native.Nat.{ℕ, _*_, _≤_, _<_}
+use mathlib.Core.Path.{_≡_, refl}
 use mathlib.Core.Bool.{Bool, true, false}
 use mathlib.Core.List.{List, [], _∷_, append-nil}
 use native.Mathlib.Nat.{mul-le-mul-right, one-mul}
 use native.Mathlib.Omega.{arith}
-use lib.ListN.{length, getD, take}
+use lib.ListN.{length, take}
 use lib.Seq.{getD-take, length-take-le}
 use lib.IntN.{ℤ, pos}
 use Rattle.scope.specs.Whole.{joined}
-use Rattle.scope.specs.Numbering.{Machine, Row, Rows, startRow, numbered}
-use Rattle.theory.specs.Exploring.{partial, partial-zero, start-rows, start-none}
+use Rattle.scope.specs.Numbering.{Machine, startRow}
+use Rattle.theory.specs.Exploring.{partial-zero, start-rows, start-none}
 use Rattle.explore.specs.declared.Stand.{Stand}
 use Rattle.explore.specs.Machine.{KeyRow}
 use Rattle.explore.specs.Areas.{rowCells, pathRows, pathCount, path-count-le, Held, kept-trans}
-use Rattle.explore.specs.Standing.{Lent, There, Stands, FullAt, Went, Ended}
+use Rattle.explore.specs.Standing.{Lent, Stands, FullAt, Ended}
 use Rattle.explore.specs.Outcome.{Ready}
 
 take-none : {A : Type 0} (l : List A) → take 0 l ≡ []

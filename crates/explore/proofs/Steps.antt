@@ -1,27 +1,26 @@
 -- What trying a letter does to where exploring stands, over any lawful machine of key rows: the target has a row, or gets one.
-use Prim.Native.Nat.{ℕ, zero, suc, _+_, _*_, _≤_, _<_}
+use Prim.Native.Nat.{ℕ, suc, _+_, _*_, _≤_, _<_}
 use mathlib.Core.Path.{_≡_, refl, sym, ap, _∙_}
 use mathlib.Core.Logic.{by-cases}
 use mathlib.Core.Bool.{Bool, true, false}
-use mathlib.Core.List.{List, [], _∷_, _++_}
+use mathlib.Core.List.{List}
 use native.Mathlib.Decide.{ℕ-discrete}
-use native.Mathlib.Nat.{suc-mul, zero-mul, zero-add, mul-le-mul-right}
+use native.Mathlib.Nat.{mul-le-mul-right}
 use native.Mathlib.Numerals.{add-one}
 use native.Mathlib.Omega.{arith}
-use lib.ListN.{length, getD, take}
+use lib.ListN.{length, take}
 use lib.Seq.{take-take, paste}
-use lib.IntN.{ℤ, pos}
-use Rattle.scope.specs.Numbering.{Machine, Row, Rows, row, numbered}
+use lib.IntN.{ℤ}
+use Rattle.scope.specs.Numbering.{Machine, row, numbered}
 use Rattle.theory.specs.Lawful.{Lawful}
 use Rattle.theory.specs.Table.{HasRow}
-use Rattle.theory.specs.Verdicts.{NoneOf}
-use Rattle.theory.specs.Exploring.{partial, target, newRow, New, grown, partial-zero, partial-all, partial-old, partial-new, grown-none}
+use Rattle.theory.specs.Exploring.{partial, target, New, grown, partial-zero, partial-all, partial-old, partial-new, grown-none}
 use Rattle.theory.specs.Simulation.{AllGood}
 use Rattle.index.specs.Rows.{rowAt, stored-front}
 use Rattle.index.specs.Index.{Finds}
 use Rattle.explore.specs.Machine.{KeyRow}
-use Rattle.explore.specs.Areas.{pathCount, Held, Kept, Stored, RowRoom, held-row, held-more}
-use Rattle.explore.specs.Standing.{Lent, There, Stands, After, next-letter, next-row, Spot, FoundAt}
+use Rattle.explore.specs.Areas.{Held, Stored, RowRoom, held-row, held-more}
+use Rattle.explore.specs.Standing.{Lent, There, Stands, After, next-letter, next-row, FoundAt}
 
 one-row : (count m : ℕ) → 0 < count → m ≤ count * m
 one-row count m h = let e : 1 * m ≤ count * m = mul-le-mul-right m h in omega arith

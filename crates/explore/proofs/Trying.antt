@@ -2,26 +2,24 @@
 use Prim.Native.Nat.{ℕ, zero, suc, _+_, _*_, _≤_, _<_}
 use mathlib.Core.Path.{_≡_, refl, sym, ap, _∙_}
 use mathlib.Core.Bool.{Bool, true, false, _&&_, true≢false}
-use mathlib.Core.List.{List, [], _∷_, map}
-use native.Mathlib.Nat.{suc-mul, mul-le-mul-right}
-use native.Mathlib.Numerals.{add-one}
+use mathlib.Core.List.{List, [], map}
 use native.Mathlib.Omega.{arith}
-use lib.ListN.{length, getD, take}
+use lib.ListN.{length, take}
 use lib.IntN.{ℤ, pos}
 use Rattle.scope.specs.Question.{nodeOf}
 use Rattle.scope.specs.States.{formulaWorth}
-use Rattle.scope.specs.Numbering.{Machine, Row, Rows, row, numbered}
+use Rattle.scope.specs.Numbering.{Machine, Rows, row}
 use Rattle.theory.specs.Lawful.{Lawful}
 use Rattle.theory.specs.Exploring.{partial, target, New}
 use Rattle.theory.specs.Simulation.{AllGood}
 use Rattle.step.specs.Eight.{padded, length-padded, take-padded, length-listed}
-use Rattle.step.specs.Cells.{kindOf, stepCell, CellFits, Stepping, stepCells, worthCells}
+use Rattle.step.specs.Cells.{Stepping, stepCells, worthCells}
 use Rattle.index.specs.Rows.{rowAt, row-end, row-cell}
-use Rattle.index.specs.Index.{Indexed, Finds}
+use Rattle.index.specs.Index.{Finds}
 use Rattle.explore.specs.declared.Stand.{Stand}
 use Rattle.explore.specs.Machine.{KeyRow, SumsFit, cellMachine, cell-letters, cell-start, cell-step, cell-accepts, cell-lawful, partial-rows}
-use Rattle.explore.specs.Areas.{pathCount, path-count-le, Held, Kept, Stored, RowRoom, kept-refl, kept-more, held-row}
-use Rattle.explore.specs.Standing.{Task, Lent, Linked, There, Stands, After, next-letter, next-row, Moved, FullAt, Tried, RowAdded, RowFits}
+use Rattle.explore.specs.Areas.{path-count-le, Kept, RowRoom, kept-refl, kept-more, held-row}
+use Rattle.explore.specs.Standing.{Task, Linked, There, Stands, After, next-letter, next-row, Moved, Tried, RowAdded}
 use Rattle.explore.proofs.Cells.{step-of-row}
 use Rattle.explore.proofs.Steps.{goes-on, old-row, is-old, is-new, new-row, found-row}
 

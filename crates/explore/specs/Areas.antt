@@ -1,14 +1,14 @@
 -- The key area and the path area: that rows stand at their fronts, that what comes after is as it was, and what one row more does.
 -- Building has no path area: what is said of the path then says that it is unchanged.
 use Prim.Native.Nat.{ℕ, zero, suc, _+_, _-_, _*_, _≤_, _<_}
-use mathlib.Core.Path.{_≡_, refl, sym, ap, ap₂, _∙_}
+use mathlib.Core.Path.{_≡_, refl, sym, ap, _∙_}
 use mathlib.Core.Bool.{Bool, true, false}
 use mathlib.Core.List.{List, [], _∷_, _++_, map, map-append, append-assoc, append-nil}
-use native.Mathlib.Nat.{suc-mul, add-sub-of-le, mul-le-mul-right}
+use native.Mathlib.Nat.{suc-mul, mul-le-mul-right}
 use native.Mathlib.Numerals.{add-one}
 use native.Mathlib.Omega.{arith}
-use lib.ListN.{length, getD, take, drop, set, length-append, length-take, length-set, take-append-drop, length-drop}
-use lib.Seq.{take-all, take-set-le, take-suc-set, drop-set-lt, length-take-le, drop-drop, drop-at, take-paste, drop-paste, paste}
+use lib.ListN.{length, take, drop, set, length-append, length-take, length-set, take-append-drop}
+use lib.Seq.{take-suc-set, drop-set-lt, length-take-le, drop-drop, drop-at, take-paste, drop-paste, paste}
 use lib.IntN.{ℤ}
 use Rattle.scope.specs.Whole.{joined, atFront}
 use Rattle.scope.specs.Numbering.{Machine, Row, Rows, startRow, row}

@@ -1,20 +1,18 @@
 -- The machine that the code explores: its states are key rows of m cells. Every row keeps m cells that are dead or of the size of an entry.
-use Prim.Native.Nat.{ℕ, zero, suc, _+_, _*_, _≤_, _<_}
-use mathlib.Core.Path.{_≡_, refl, sym, ap, ap₂, _∙_}
+use Prim.Native.Nat.{ℕ, _+_, _*_, _≤_, _<_}
+use mathlib.Core.Path.{_≡_, refl, sym, ap₂, _∙_}
 use mathlib.Core.Logic.{inl, inr, ⊎-elim}
 use mathlib.Core.Bool.{Bool, true, false, cond, _&&_, true≢false}
 use mathlib.Core.List.{List, [], _∷_, map}
 use native.Mathlib.Nat.{zero-add}
 use native.Mathlib.Omega.{arith}
 use lib.ListN.{length, getD}
-use lib.Dec.{T}
 use lib.IntN.{ℤ, pos, negℤ, natAbs, _-ℤ_}
-use lib.Signed.{_≤ℤ_}
 use lib.Ieee.Bits.{is-true}
 use Rattle.scope.specs.Whole.{eqZ, even, half}
 use Rattle.scope.specs.Question.{Kind, equation, atMost, nodeOf}
-use Rattle.scope.specs.States.{Entry, dead, live, deadCell, cellOf, halved, formulaWorth}
-use Rattle.scope.specs.Numbering.{Machine, Row, Rows, row, numbered}
+use Rattle.scope.specs.States.{dead, live, deadCell, cellOf, halved, formulaWorth}
+use Rattle.scope.specs.Numbering.{Machine}
 use Rattle.theory.specs.Integers.{eqZ→eq, eq→eqZ}
 use Rattle.theory.specs.Magnitude.{abs-le, le-abs}
 use Rattle.theory.specs.Half.{half-low, half-high}
@@ -22,7 +20,7 @@ use Rattle.theory.specs.Bridge.{linear}
 use Rattle.theory.specs.Lawful.{Lawful}
 use Rattle.theory.specs.Exploring.{partial}
 use Rattle.theory.specs.Simulation.{Simulates, AllGood, partial-good}
-use Rattle.step.specs.Eight.{listed, length-listed, getD-listed}
+use Rattle.step.specs.Eight.{length-listed, getD-listed}
 use Rattle.step.specs.Cells.{kindOf, stepCell, stepCells, worthCells, CellFits}
 
 -- ---- whether two rows have the same cells

@@ -2,22 +2,20 @@
 -- from others as the state is. So what number_rows leaves of it is what the definitions say of the question.
 use mathlib.Core.Path.{_≡_, refl, sym, ap, _∙_}
 use mathlib.Core.Bool.{Bool, true, false}
-use mathlib.Core.Option.{none}
 use mathlib.Core.List.{List, [], _∷_, map}
-use Prim.Native.Nat.{ℕ, _+_, _*_, _^_, _≤_, _<_}
+use Prim.Native.Nat.{ℕ, _^_, _<_}
 use native.Mathlib.Nat.{zero-add}
 use native.Mathlib.Omega.{arith}
-use lib.ListN.{length, getD, take, length-map}
+use lib.ListN.{length, getD, length-map}
 use lib.Seq.{take-all}
-use lib.Dec.{leb}
 use lib.Pow.{pow-mono, pow-pos}
 use lib.IntN.{ℤ, pos}
 use Rattle.scope.specs.declared.Question.{Question}
 use Rattle.scope.specs.Whole.{joined, atFront}
 use Rattle.scope.specs.Question.{Atom, nodeOf, nodesOf, atomsOf, atomCount}
 use Rattle.scope.specs.States.{State, cellOf, cellsOf, startOf, stepOf, worthsOf, sameState, formulaWorth, accepting}
-use Rattle.scope.specs.Numbering.{Machine, Row, Rows, machineOf, numbered}
-use Rattle.scope.specs.Deciding.{Verdict, verdictBy, counted, keyCells}
+use Rattle.scope.specs.Numbering.{Machine, Rows, machineOf, numbered}
+use Rattle.scope.specs.Deciding.{counted, keyCells}
 use Rattle.theory.specs.Lawful.{same-state-sound, same-state-refl}
 use Rattle.theory.specs.Range.{StateIn, length-in, startOf-in, stepOf-in}
 use Rattle.theory.specs.Cells.{AtomsFit, cellsOf-injective}

@@ -6,7 +6,7 @@ use index::rebuild;
 use step::step_row;
 use step::worths_at;
 ghost use mathlib.Core.Path.{_≡_};
-ghost use mathlib.Core.Bool.{true, _&&_};
+ghost use mathlib.Core.Bool.{true, false, _&&_};
 ghost use mathlib.Core.List.{map};
 ghost use Prim.Native.Nat.{_+_, _*_, _≤_, _<_, min};
 ghost use lib.ListN.{length, take};
@@ -20,38 +20,49 @@ ghost use Rattle.explore.specs.Outcome.{exploredBy, Ready, Numbered};
 ghost use Rattle.explore.specs.Standing.{Lacks, Task, Linked, Stands, Moved, RowFits, RowAdded, Tried, Ended};
 
 // Where exploring stands: the rows so far, and the row and the letter that come next.
-pub struct Stand {
-    pub count: usize,
-    pub row: usize,
-    pub letter: usize,
+struct Stand {
+    count: usize,
+    row: usize,
+    letter: usize,
     // It goes no further: the letter leads to a new state, which accepts, or else has no row left.
-    pub stopped: bool,
-    pub accepted: bool,
+    stopped: bool,
+    accepted: bool,
 }
 
 impl Stand {
+    fn going(count: usize, row: usize, letter: usize) -> Stand
+        ensures { λ r. ⌜ r ≡ record { count = count; row = row; letter = letter; stopped = false; accepted = false } ⌝ }
+    {
+        Stand {
+            count,
+            row,
+            letter,
+            stopped: false,
+            accepted: false,
+        }
+    }
+
+    fn ending(count: usize, row: usize, letter: usize, accepted: bool) -> Stand
+        ensures { λ r. ⌜ r ≡ record { count = count; row = row; letter = letter; stopped = true; accepted = accepted } ⌝ }
+    {
+        Stand {
+            count,
+            row,
+            letter,
+            stopped: true,
+            accepted,
+        }
+    }
+
     // After a letter of a row: the next letter, or the next row.
     fn after(letters: usize, count: usize, row: usize, letter: usize) -> Stand
         requires { ⌜ (letter < letters) × (letters ≤ 64) × (row < 65535) ⌝ }
         ensures { λ r. ⌜ Moved letters count row letter r ⌝ }
     {
-        let a = letter + 1;
-        if a < letters {
-            return Stand {
-                count,
-                row,
-                letter: a,
-                stopped: false,
-                accepted: false,
-            };
+        if letter + 1 < letters {
+            return Stand::going(count, row, letter + 1);
         }
-        Stand {
-            count,
-            row: row + 1,
-            letter: 0,
-            stopped: false,
-            accepted: false,
-        }
+        Stand::going(count, row + 1, 0)
     }
 
     // Whether it stopped for want of rows, and there are more.
@@ -180,13 +191,7 @@ fn try_letter(
         return Stand::after(letters, count, row, letter);
     }
     if count == rows {
-        return Stand {
-            count,
-            row,
-            letter,
-            stopped: true,
-            accepted: false,
-        };
+        return Stand::ending(count, row, letter, false);
     }
     if add_row(
         codes,
@@ -202,13 +207,7 @@ fn try_letter(
         row,
         letter,
     ) {
-        return Stand {
-            count: count + 1,
-            row,
-            letter,
-            stopped: true,
-            accepted: true,
-        };
+        return Stand::ending(count + 1, row, letter, true);
     }
     Stand::after(letters, count + 1, row, letter)
 }
@@ -235,13 +234,7 @@ fn explore(
     requires { ⌜ Linked m rows (now keys) (now head) (now next) count ⌝ }
     ensures { λ r. ⌜ Ended (cellMachine (now (codes .entry)) (now (kinds .entry)) m (now (sums .entry)) letters (take m (now (keys .entry)))) m rows deciding (now (keys .entry)) (now (path .entry)) count (now (keys .exit)) (now (path .exit)) r ⌝ }
 {
-    let mut s = Stand {
-        count,
-        row,
-        letter,
-        stopped: false,
-        accepted: false,
-    };
+    let mut s = Stand::going(count, row, letter);
     while s.row < s.count {
         s = try_letter(
             codes,

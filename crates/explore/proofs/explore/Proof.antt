@@ -1,8 +1,8 @@
 -- `explore::explore` meets its contract. The invariant: exploring stands somewhere and has not stopped. The measure is how many letters of
 -- how many rows there are left at most. Assumes nothing.
 use mathlib.Core.Path.{_≡_, refl, _∙_}
-use Prim.Native.Nat.{_<_}
 use native.Mathlib.Omega.{arith}
+use borrow.Author.Needs.{needs}
 use lib.ListN.{length, take}
 use Rattle.explore.specs.Machine.{cellMachine}
 use Rattle.explore.proofs.Trying.{Runs, letter-below, cell-runs}
@@ -23,13 +23,13 @@ runs : (s : tie.Start Inv-loop μ-loop) → Runs (s .args .codes .now) (s .args 
 runs s = cell-runs (s .args .codes .now) (s .args .kinds .now) (s .args .m) (s .args .sums .now) (s .args .letters) (take (s .args .m) (s .args .keys .now))
 
 loop-holds : tie.Need-loop-holds Inv-loop μ-loop
-loop-holds c = let p = c .before .before .before .pre in (refl, refl, refl, refl, begins (p .1 .0) (p .1 .1))
+loop-holds c = let p = c .before .before .before .before .pre in (refl, refl, refl, refl, rw (c .going .ensures) (begins (p .1 .0) (p .1 .1)))
 
 try-letter-requires : tie.Need-try-letter-requires Inv-loop μ-loop
 try-letter-requires c κs =
     let e = c .before .before .before .before .before .before .loop .inv .4 in
     let s = stands e in
-    (c .before .before .before .before .before .before .before .before .before .before .pre .0, (rw (start-stays (runs (c .before .before .before .before .before .before .before .before .before .before)) s) s, (e .linked, c .before .before .before .before .if1 .taken)))
+    (c .before .before .before .before .before .before .before .before .before .before .before .pre .0, (rw (start-stays (runs (c .before .before .before .before .before .before .before .before .before .before .before)) s) s, (e .linked, c .before .before .before .before .if1 .taken)))
 
 same-length : tie.Need-same-length Inv-loop μ-loop
 same-length c = c .before .before .before .before .before .before .before .before .try-letter .kept .1 .1 .1 .1 .1 .0 ∙ c .before .before .before .before .before .before .before .before .before .before .before .before .before .before .before .loop .inv .0
@@ -46,18 +46,18 @@ same-length-4 c = c .before .before .before .before .before .before .before .bef
 returns : tie.Need-returns Inv-loop μ-loop
 returns c =
     let e = c .before .before .before .before .before .before .before .before .before .before .before .before .before .before .before .loop .inv .4 in
-    stops e (rw (start-stays (runs (c .before .before .before .before .before .before .before .before .before .before .before .before .before .before .before .before .before .before .before)) (stands e)) at (c .before .before .before .before .before .before .before .before .try-letter .ensures)) (c .if2 .taken)
+    stops e (rw (start-stays (runs (c .before .before .before .before .before .before .before .before .before .before .before .before .before .before .before .before .before .before .before .before)) (stands e)) at (c .before .before .before .before .before .before .before .before .try-letter .ensures)) (c .if2 .taken)
 
 loop-less : tie.Need-loop-less Inv-loop μ-loop
 loop-less c =
     let l = c .before .before .before .before .before .before .before .before .before .before .before .before .before .before .before .loop in
     let e = l .inv .4 in
     let s = stands e in
-    let a = c .before .before .before .before .before .before .before .before .before .before .before .before .before .before .before .before .before .before .before .args in
-    let p = c .before .before .before .before .before .before .before .before .before .before .before .before .before .before .before .before .before .before .before .pre .0 in
+    let a = c .before .before .before .before .before .before .before .before .before .before .before .before .before .before .before .before .before .before .before .before .args in
+    let p = c .before .before .before .before .before .before .before .before .before .before .before .before .before .before .before .before .before .before .before .before .pre .0 in
     let below = c .before .before .before .before .before .before .before .before .before .before .before .before .before .if1 .taken in
     less-left (a .rows) (l .s) (c .before .before .before .before .before .before .before .before .try-letter .result) (omega (arith, below, s .rows-there .count-ok))
-    (omega (arith, p .few-letters, letter-below (runs (c .before .before .before .before .before .before .before .before .before .before .before .before .before .before .before .before .before .before .before)) p s below))
+    (omega (arith, p .few-letters, letter-below (runs (c .before .before .before .before .before .before .before .before .before .before .before .before .before .before .before .before .before .before .before .before)) p s below))
     (c .before .before .before .before .before .before .before .before .try-letter .ensures .on (c .if2 .left))
 
 loop-again : tie.Need-loop-again Inv-loop μ-loop
@@ -69,7 +69,7 @@ loop-again c =
       t .kept .1 .1 .1 .1 .1 .1 .0 ∙ l .inv .1,
       t .kept .1 .1 .1 .1 .1 .1 .1 .0 ∙ l .inv .2,
       t .kept .1 .1 .1 .1 .1 .1 .1 .1 .0 ∙ l .inv .3,
-      goes-on e (rw (start-stays (runs (c .before .before .before .before .before .before .before .before .before .before .before .before .before .before .before .before .before .before .before)) (stands e)) at (t .ensures)) (c .if2 .left),
+      goes-on e (rw (start-stays (runs (c .before .before .before .before .before .before .before .before .before .before .before .before .before .before .before .before .before .before .before .before)) (stands e)) at (t .ensures)) (c .if2 .left),
     )
 
 same-length-5 : tie.Need-same-length-5 Inv-loop μ-loop
@@ -90,5 +90,5 @@ returns-2 c = ends (c .before .before .loop .inv .4) (c .if1 .left)
 pub explore-spec : {M : Type 1} → statement M
 explore-spec =
     tie.close
-    (tie.spec Inv-loop μ-loop loop-holds try-letter-requires same-length same-length-2 same-length-3 same-length-4 returns
+    (tie.spec Inv-loop μ-loop (λ c κs. search needs) loop-holds try-letter-requires same-length same-length-2 same-length-3 same-length-4 returns
     loop-less loop-again same-length-5 same-length-6 same-length-7 same-length-8 returns-2)

@@ -1,8 +1,7 @@
 -- `explore::explore_many` meets its contract: its index has 65,536 buckets and links. Assumes nothing.
-use mathlib.Core.Path.{sym}
 use borrow.Author.Needs.{needs}
 use native.Mathlib.Omega.{arith}
-use lib.ListN.{length, replicate, length-replicate}
+use lib.ListN.{length-replicate}
 use lib.Dec.{lit<, lit≤}
 use Rattle.explore.proofs.explore_many.Statement.{statement}
 use Rattle.explore.proofs.explore_many.Tie as tie

@@ -1,12 +1,10 @@
 -- `explore::number_rows` meets its contract: few rows first, which are all, or give way to all where they are full. Assumes nothing.
-use Prim.Native.Nat.{_*_, _≤_, _<_}
-use mathlib.Core.Path.{_≡_, refl, sym, _∙_}
+use mathlib.Core.Path.{refl, sym}
 use native.Mathlib.Nat.{le-refl}
 use native.Mathlib.Omega.{arith}
 use borrow.Author.Needs.{needs}
-use lib.ListN.{length, take}
-use Rattle.explore.specs.Machine.{cellMachine, cell-start, cell-letters, cell-lawful}
-use Rattle.explore.specs.Areas.{pathCount}
+use lib.ListN.{take}
+use Rattle.explore.specs.Machine.{cellMachine}
 use Rattle.explore.proofs.Trying.{Runs, cell-runs}
 use Rattle.explore.proofs.Going.{start-stays}
 use Rattle.explore.proofs.Stages.{start-stands, more-stands, stopped-full, ended-after}

@@ -1,6 +1,5 @@
 -- `explore::put_path` meets its contract: deciding, the two cells of row count are in the area. Assumes nothing.
 use Prim.Native.Nat.{_+_, _*_, _≤_}
-use mathlib.Core.Path.{refl}
 use native.Mathlib.Omega.{arith}
 use borrow.Author.Needs.{needs}
 use lib.ListN.{length, length-set}

@@ -1,11 +1,10 @@
 -- `explore::try_letter` meets its contract: each way out is one of the laws of Trying, with what the calls gave. Assumes nothing.
 use Prim.Native.Nat.{_<_}
-use mathlib.Core.Path.{refl}
 use native.Mathlib.Omega.{arith}
 use borrow.Author.Needs.{needs}
 use lib.ListN.{take}
 use Rattle.explore.specs.Machine.{cellMachine}
-use Rattle.explore.proofs.Trying.{Runs, cell-runs, letter-below, row-within, stepping, key-long, room-for, tried-old, tried-full, tried-found, tried-new}
+use Rattle.explore.proofs.Trying.{Runs, cell-runs, letter-below, row-within, stepping, room-for, tried-old, tried-full, tried-found, tried-new}
 use Rattle.explore.proofs.try_letter.Statement.{statement}
 use Rattle.explore.proofs.try_letter.Tie as tie
 
@@ -33,9 +32,10 @@ returns c =
 
 returns-2 : tie.Need-returns-2
 returns-2 c =
-    let s = c .before .before .before .before .before .before .before .before .before .before .before .before in
+    let s = c .before .before .before .before .before .before .before .before .before .before .before .before .before in
     let p = s .pre in
-    tried-full (runs s) (p .0) (p .1 .0) (p .1 .1 .1) (c .before .before .before .before .before .before .before .step-row .ensures) (c .before .before .find .ensures) (c .before .if1 .left) (c .if2 .taken) refl
+    tried-full (runs s) (p .0) (p .1 .0) (p .1 .1 .1) (c .before .before .before .before .before .before .before .before .step-row .ensures) (c .before .before .before .find .ensures) (c .before .before .if1 .left) (c .before .if2 .taken)
+    (c .ending .ensures)
 
 add-row-requires : tie.Need-add-row-requires
 add-row-requires c κs =
@@ -58,10 +58,11 @@ add-row-requires c κs =
 
 returns-3 : tie.Need-returns-3
 returns-3 c =
-    let s = c .before .before .before .before .before .before .before .before .before .before .before .before .before .before .before .before .before .before .before .before .before .before .before .before .before .before in
+    let s = c .before .before .before .before .before .before .before .before .before .before .before .before .before .before .before .before .before .before .before .before .before .before .before .before .before .before .before in
     let p = s .pre in
-    let free : s .args .count < s .args .rows = omega (arith, p .1 .0 .rows-there .count-ok, c .before .before .before .before .before .before .before .before .before .before .before .before .before .before .if2 .left) in
-    tried-found (runs s) (p .0) (p .1 .0) (p .1 .1 .1) (c .before .before .before .before .before .before .before .before .before .before .before .before .before .before .before .before .before .before .before .before .before .step-row .ensures) (c .before .before .before .before .before .before .before .before .before .before .before .before .before .before .before .before .find .ensures) (c .before .before .before .before .before .before .before .before .before .before .before .before .before .before .before .if1 .left) free (c .before .before .before .before .before .before .before .before .add-row .ensures) (c .if3 .taken) refl
+    let free : s .args .count < s .args .rows = omega (arith, p .1 .0 .rows-there .count-ok, c .before .before .before .before .before .before .before .before .before .before .before .before .before .before .before .if2 .left) in
+    tried-found (runs s) (p .0) (p .1 .0) (p .1 .1 .1) (c .before .before .before .before .before .before .before .before .before .before .before .before .before .before .before .before .before .before .before .before .before .before .step-row .ensures) (c .before .before .before .before .before .before .before .before .before .before .before .before .before .before .before .before .before .find .ensures) (c .before .before .before .before .before .before .before .before .before .before .before .before .before .before .before .before .if1 .left) free (c .before .before .before .before .before .before .before .before .before .add-row .ensures)
+    (c .before .if3 .taken) (c .ending2 .ensures)
 
 after-requires-2 : tie.Need-after-requires-2
 after-requires-2 c κs =
@@ -82,7 +83,7 @@ pub try-letter-spec : {M : Type 1} → statement M
 try-letter-spec =
     tie.close
     (tie.spec mul-step-row step-row-requires (λ c κs. search needs) after-requires (λ c. search needs) (λ c. search needs) (λ c. search needs) returns
-    (λ c. search needs) (λ c. search needs) (λ c. search needs) returns-2 add-row-requires (λ c. search needs)
-    (λ c. search needs) (λ c. search needs) (λ c. search needs) (λ c. search needs) returns-3
+    (λ c κs. search needs) (λ c. search needs) (λ c. search needs) (λ c. search needs) returns-2 add-row-requires (λ c. search needs)
+    (λ c κs. search needs) (λ c. search needs) (λ c. search needs) (λ c. search needs) (λ c. search needs) returns-3
     (λ c. search needs) after-requires-2
     (λ c. search needs) (λ c. search needs) (λ c. search needs) (λ c. search needs) returns-4)

@@ -1,5 +1,4 @@
 -- `explore::Stand::explored` meets its contract: by whether it stopped, and whether a state was accepted. Assumes nothing.
-use mathlib.Core.Path.{refl}
 use Rattle.explore.proofs.Stand.explored.Statement.{statement}
 use Rattle.explore.proofs.Stand.explored.Tie as tie
 

@@ -1,6 +1,6 @@
 -- `explore::Stand::lacks` meets its contract: by whether it stopped, and whether a state was accepted. Assumes nothing.
 use Prim.Native.Nat.{ℕ}
-use mathlib.Core.Path.{_≡_, refl}
+use mathlib.Core.Path.{_≡_}
 use native.Mathlib.Omega.{arith}
 use borrow.Author.Needs.{needs}
 use Rattle.explore.proofs.Stand.lacks.Statement.{statement}
