@@ -19,6 +19,12 @@ ghost use Rattle.explore.specs.Areas.{pathCount, pathWith, RowRoom};
 ghost use Rattle.explore.specs.Outcome.{exploredBy, Ready, Numbered};
 ghost use Rattle.explore.specs.Standing.{Lacks, Task, Linked, Stands, Moved, RowFits, RowAdded, Tried, Ended};
 
+// The rows for which the small index has room, and its buckets.
+const FEW: usize = 256;
+
+// The same of the large index.
+const MANY: usize = 65_536;
+
 // Where exploring stands: the rows so far, and the row and the letter that come next.
 struct Stand {
     count: usize,
@@ -30,6 +36,7 @@ struct Stand {
 }
 
 impl Stand {
+    // At a letter of a row that is to be tried.
     fn going(count: usize, row: usize, letter: usize) -> Stand
         ensures { λ r. ⌜ r ≡ record { count = count; row = row; letter = letter; stopped = false; accepted = false } ⌝ }
     {
@@ -42,6 +49,7 @@ impl Stand {
         }
     }
 
+    // At a letter of a row that leads to the end.
     fn ending(count: usize, row: usize, letter: usize, accepted: bool) -> Stand
         ensures { λ r. ⌜ r ≡ record { count = count; row = row; letter = letter; stopped = true; accepted = accepted } ⌝ }
     {
@@ -78,6 +86,7 @@ impl Stand {
         false
     }
 
+    // As the answer, once exploring has ended.
     fn explored(self) -> Explored
         ensures { λ r. ⌜ r ≡ exploredBy (self .stopped) (self .accepted) (self .count) ⌝ }
     {
@@ -317,8 +326,8 @@ fn explore_few(
     requires { ⌜ rows ≤ 256 ⌝ }
     ensures { λ r. ⌜ Ended (cellMachine (now (codes .entry)) (now (kinds .entry)) m (now (sums .entry)) letters (take m (now (keys .entry)))) m rows deciding (now (keys .entry)) (now (path .entry)) 1 (now (keys .exit)) (now (path .exit)) r ⌝ }
 {
-    let mut head = [65535u16; 256];
-    let mut next = [65535u16; 256];
+    let mut head = [0u16; FEW];
+    let mut next = [0u16; FEW];
     resume(
         codes,
         kinds,
@@ -356,8 +365,8 @@ fn explore_many(
     requires { ⌜ Stands (cellMachine (now codes) (now kinds) m (now sums) letters (take m (now keys))) m rows deciding (now keys) (now path) count row letter ⌝ }
     ensures { λ r. ⌜ Ended (cellMachine (now (codes .entry)) (now (kinds .entry)) m (now (sums .entry)) letters (take m (now (keys .entry)))) m rows deciding (now (keys .entry)) (now (path .entry)) count (now (keys .exit)) (now (path .exit)) r ⌝ }
 {
-    let mut head = [65535u16; 65536];
-    let mut next = [65535u16; 65536];
+    let mut head = [0u16; MANY];
+    let mut next = [0u16; MANY];
     resume(
         codes,
         kinds,
@@ -380,10 +389,10 @@ fn explore_many(
 fn few_of(rows: usize) -> usize
     ensures { λ r. ⌜ r ≡ min rows 256 ⌝ }
 {
-    if rows < 256 {
+    if rows < FEW {
         return rows;
     }
-    256
+    FEW
 }
 
 // Numbers the states from the start's, which is row 0 already, in at most so many rows. Deciding, it writes the path area and stops at the
