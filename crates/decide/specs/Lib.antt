@@ -1,0 +1,2 @@
+-- The word that a path area spells.
+pub mod Path
