@@ -1,2 +1,4 @@
--- The word that a path area spells.
+-- What deciding leaves, the word that a path area spells, and the areas with the start in them.
+pub mod Decides
 pub mod Path
+pub mod Start
