@@ -2,3 +2,5 @@
 pub mod Decides
 pub mod Path
 pub mod Start
+pub mod Simulated
+pub mod Explores

@@ -1,0 +1,200 @@
+-- Exploring a question from its start: what it asks and what it leaves; that a row found in it can be read off the path area, and
+-- that the answer made of it is that of document 01's definitions.
+use mathlib.Core.Path.{_≡_, refl, sym, ap, _∙_}
+use mathlib.Core.Bool.{true, false}
+use mathlib.Core.List.{List, [], _∷_, _++_, append-nil}
+use Prim.Native.Nat.{ℕ, zero, suc, _+_, _-_, _*_, _/_, _≤_, _<_, min}
+use native.Mathlib.Nat.{le-refl, mul-le-mul-right, one-mul}
+use native.Mathlib.Omega.{arith}
+use lib.ListN.{length, getD, take, drop, length-take, take-append-drop}
+use lib.Seq.{getD-take, length-take-le}
+use lib.Dec.{leb}
+use lib.Pow.{pow-mono}
+use lib.IntN.{ℤ}
+use Rattle.scope.specs.declared.Question.{Question}
+use Rattle.scope.specs.declared.DecideAnswer.{DecideAnswer}
+use Rattle.scope.specs.Whole.{joined, atFront}
+use Rattle.scope.specs.Question.{atomsOf, atomCount}
+use Rattle.scope.specs.Words.{Word}
+use Rattle.scope.specs.States.{State, cellsOf, startOf}
+use Rattle.scope.specs.Numbering.{Machine, Row, Rows, machineOf, startRow, row, numbered, wordOf}
+use Rattle.scope.specs.Deciding.{Verdict, found, never, noRoom, verdict, counted, decideRoom, keyCells, pathCells, foundAnswer, foundWord, decideAnswer, wordAfter, Decided, decidedQuestion}
+use Rattle.theory.specs.Lawful.{machine-lawful}
+use Rattle.theory.specs.Table.{Rooted, numbered-rooted}
+use Rattle.theory.specs.Exploring.{start-found, start-counted, no-rows}
+use Rattle.theory.specs.Simulation.{Simulates, rowsMap, states-map, paths-map, same-verdict, same-length, same-counted}
+use Rattle.theory.specs.Joined.{joined-at, atFront-before, atFront-length}
+use Rattle.theory.specs.Lengths.{path-length, keys-length, Counted, counted-are}
+use Rattle.theory.specs.Deciding.{rowsOf, rowWord, verdictOf, countedRows, FoundAt, found-exactly}
+use Rattle.theory.specs.Accepted.{WithinLimits}
+use Rattle.step.specs.Eight.{padded}
+use Rattle.step.specs.Cells.{kindCodes}
+use Rattle.step.specs.Laws.{start-cells}
+use Rattle.explore.specs.declared.Explored.{Explored}
+use Rattle.explore.specs.Areas.{rowCells, pathRows, front-twice}
+use Rattle.explore.specs.Outcome.{exploredAs, Numbered}
+use Rattle.decide.specs.Path.{pathWord, Linked, fromAt, letterAt, rows-linked, rows-word}
+use Rattle.decide.specs.Start.{StartPut}
+use Rattle.decide.specs.Decides.{Decides, wordFound, answerBy, wordBy, Answers, Spelt, SpeltIf}
+
+-- a question by its parts
+abbrev pub heldQuestion : ℕ → List ℕ → List ℤ → List ℤ → Question
+heldQuestion n codes coefficients constants = record { n = n; codes = codes; coefficients = coefficients; constants = constants }
+
+-- what exploring asks
+pub record Lends (q : Question) (kinds : List ℕ) (m rows : ℕ) (keys : List ℤ) (path : List ℕ) : Type 0 where
+  pub limits : WithinLimits q
+  pub kinds-are : kinds ≡ padded 0 (kindCodes (q .codes))
+  pub count : m ≡ atomCount q
+  pub some-rows : 0 < rows
+  pub few-rows : rows ≤ 65535
+  pub keys-room : rows * m ≤ length keys
+  pub path-room : 2 * rows ≤ length path
+
+-- what it leaves
+pub record Explores (q : Question) (rows : ℕ) (keys₀ : List ℤ) (path₀ : List ℕ) (keys₁ : List ℤ) (path₁ : List ℕ) (explored : Explored) : Type 0 where
+  pub answer : explored ≡ exploredAs (verdictOf q rows) rows (length (rowsOf q rows))
+  pub keys : keys₁ ≡ atFront (keyCells (countedRows q rows)) keys₀
+  pub path : path₁ ≡ atFront (pathCells (countedRows q rows)) path₀
+
+-- ---- where the start accepts
+
+module _ (q : Question) {kinds : List ℕ} {m rows : ℕ} {keys₀ : List ℤ} {path₀ : List ℕ} (ask : Lends q kinds m rows keys₀ path₀)
+    {keys₁ : List ℤ} {path₁ : List ℕ} (put : StartPut (q .constants) m keys₀ keys₁ path₀ path₁) where
+  start-row-cells : keyCells (startRow (machineOf q) ∷ []) ≡ take m (q .constants)
+  unfolding keyCells joined startRow machineOf
+  start-row-cells =
+      let e : cellsOf (startOf (atomsOf q)) ≡ take m (q .constants) = rw (ask .count) (sym (start-cells (ask .limits))) in
+      append-nil (cellsOf (startOf (atomsOf q))) ∙ e
+
+  pub explores-start : machineOf q .accepts (machineOf q .start) ≡ true → Explores q rows keys₀ path₀ keys₁ path₁ (Explored.Found 1)
+  unfolding pathCells joined startRow
+  explores-start accepts =
+      let v : verdictOf q rows ≡ found 0 = start-found (machineOf q) rows (ask .some-rows) accepts in
+      let c = start-counted (machineOf q) rows in
+      record { answer = rw v; keys = rw (v, c, start-row-cells) (put .keys-are); path = rw (v, c) (put .path-is) }
+
+  -- ---- and where it does not, by a machine that does the same
+
+  some-counted : (v : Verdict) (l : Rows State) → 0 < length l → 0 < length (counted v rows l)
+  some-counted (found w) l h = omega (arith, length-take (suc w) l)
+  some-counted never l h = h
+  some-counted noRoom l h = omega (arith, length-take rows l, ask .some-rows)
+
+  counted-some : 0 < length (countedRows q rows)
+  counted-some = some-counted (verdictOf q rows) (rowsOf q rows) (numbered-rooted (machineOf q) (machine-lawful q) rows .not-empty)
+
+  keys-enough : m ≤ length keys₀
+  keys-enough = omega (arith, rw one-mul at (mul-le-mul-right m (ask .some-rows)), ask .keys-room)
+
+  keys-longer : m ≤ length (keyCells (countedRows q rows))
+  keys-longer =
+      let c = counted-are q rows (verdictOf q rows) refl in
+      let e : length (keyCells (countedRows q rows)) ≡ length (countedRows q rows) * atomCount q = rw (c .are) (keys-length q rows (c .k)) in
+      rw (e, ask .count) (rw one-mul at (mul-le-mul-right (atomCount q) counted-some))
+
+  module _ {M : Machine (List ℤ)} {Good : State → Type 0} (same : Simulates (machineOf q) M cellsOf Good) where
+    same-keys : rowCells (counted (verdict M rows (numbered M rows)) rows (numbered M rows)) ≡ keyCells (countedRows q rows)
+    unfolding rowCells keyCells
+    same-keys = rw (same-verdict same rows rows, same-counted same rows (verdictOf q rows) rows) (ap joined (states-map cellsOf (λ s. s) (countedRows q rows)))
+
+    same-path : pathRows true (counted (verdict M rows (numbered M rows)) rows (numbered M rows)) ≡ pathCells (countedRows q rows)
+    unfolding pathRows pathCells
+    same-path =
+        rw (same-verdict same rows rows, same-counted same rows (verdictOf q rows) rows)
+        (ap joined (paths-map cellsOf (λ from letter. from ∷ letter ∷ []) (countedRows q rows)))
+
+    pub explores-on : {keys : List ℤ} {path : List ℕ} {r : Explored} → Numbered M rows true keys₁ path₁ keys path r → Explores q rows keys₀ path₀ keys path r
+    explores-on n = record {
+      answer = n .answer ∙ rw (same-verdict same rows rows, same-length same rows);
+      keys =
+          n .keys-after ∙ rw (same-keys, put .keys-are)
+          (front-twice (take m (q .constants)) (keyCells (countedRows q rows)) keys₀ (omega (arith, length-take m (q .constants), keys-longer)) (omega (arith, length-take m (q .constants), keys-enough)));
+      path =
+          n .path-after ∙ rw (same-path, put .path-is)
+          (front-twice (0 ∷ 0 ∷ []) (pathCells (countedRows q rows)) path₀ (omega (arith, path-length (countedRows q rows), counted-some)) (omega (arith, ask)));
+    }
+
+-- ---- the answer
+
+module _ (q : Question) (rows : ℕ) (few : q .n ≤ 6) {keys₀ : List ℤ} {path₀ : List ℕ} (room : 2 * rows ≤ length path₀) {keys₁ : List ℤ} {path₁ : List ℕ} {explored : Explored}
+    (e : Explores q rows keys₀ path₀ keys₁ path₁ explored) where
+  few-letters : machineOf q .letters ≤ 64
+  unfolding machineOf
+  few-letters = pow-mono few
+
+  module _ (w : ℕ) (is-found : verdictOf q rows ≡ found w) where
+    at : FoundAt q rows w
+    at = found-exactly q rows w .0 is-found
+
+    rooted : Rooted (machineOf q) (rowsOf q rows)
+    rooted = numbered-rooted (machineOf q) (machine-lawful q) rows
+
+    path-is : path₁ ≡ atFront (pathCells (take (suc w) (rowsOf q rows))) path₀
+    path-is = rw is-found at (e .path)
+
+    cell : (t i : ℕ) → t ≤ w → i < 2 → getD path₁ (t * 2 + i) 0 ≡ getD (row (machineOf q) (rowsOf q rows) t .from ∷ row (machineOf q) (rowsOf q rows) t .letter ∷ []) i 0
+    unfolding pathCells
+    cell t i h g =
+        let l = take (suc w) (rowsOf q rows) in
+        let n : length l ≡ suc w = length-take-le (suc w) (rowsOf q rows) (at .inside) in
+        let p : t < suc w = omega arith in
+        rw path-is
+        (atFront-before (pathCells l) path₀ (t * 2 + i) 0 (omega (arith, path-length l))
+        ∙ joined-at (λ (x : Row State). x .from ∷ x .letter ∷ []) 2 (startRow (machineOf q)) l (λ t h. refl) t i 0 (omega arith) g
+        ∙ rw (getD-take (suc w) (rowsOf q rows) t (startRow (machineOf q)) p))
+
+    froms : (t : ℕ) → t ≤ w → fromAt path₁ t ≡ row (machineOf q) (rowsOf q rows) t .from
+    froms t h = let d : 2 * t ≡ t * 2 + 0 = omega arith in rw d (cell t 0 h (omega arith))
+
+    letters-are : (t : ℕ) → t ≤ w → letterAt path₁ t ≡ row (machineOf q) (rowsOf q rows) t .letter
+    letters-are t h = let d : 2 * t + 1 ≡ t * 2 + 1 = omega arith in rw d (cell t 1 h (omega arith))
+
+    found-spelt : Spelt path₁ (suc w)
+    found-spelt =
+        let l = take (suc w) (rowsOf q rows) in
+        let n : length l ≡ suc w = length-take-le (suc w) (rowsOf q rows) (at .inside) in
+        let fits : length (pathCells l) ≤ length path₀ = omega (arith, path-length l, at .room) in
+        let d : suc w - 1 ≡ w = omega arith in
+        let size : 2 * w + 1 < length path₁ = omega (arith, ap length path-is, atFront-length (pathCells l) path₀ fits, at .room) in
+        record { some = omega arith; linked = rw d (rows-linked (machineOf q) rooted path₁ w (at .inside) froms letters-are few-letters size) }
+
+    found-word-is : wordFound path₁ (suc w) ≡ rowWord q rows w
+    found-word-is = let d : suc w - 1 ≡ w = omega arith in rw d (rows-word (machineOf q) rooted path₁ w (at .inside) froms letters-are)
+
+  pub spelt : SpeltIf explored path₁
+  spelt = rw (e .answer) (go (verdictOf q rows) refl)
+    where
+      go : (v : Verdict) → verdictOf q rows ≡ v → SpeltIf (exploredAs v rows (length (rowsOf q rows))) path₁
+      go (found w) x = found-spelt w x
+      go never x = tt
+      go noRoom x = tt
+
+  module _ {word₀ word₁ : List ℕ} {answer₁ : DecideAnswer} (a : Answers explored path₁ word₀ word₁ answer₁) where
+    answer-is : (v : Verdict) → verdictOf q rows ≡ v
+        → answerBy (exploredAs v rows (length (rowsOf q rows))) path₁ word₀ ≡ decideAnswer v rows (rowsOf q rows) (machineOf q) word₀
+    answer-is (found w) x = rw (found-word-is w x)
+    answer-is never x = refl
+    answer-is noRoom x = refl
+
+    word-is : (v : Verdict) → verdictOf q rows ≡ v
+        → wordBy (exploredAs v rows (length (rowsOf q rows))) path₁ word₀ ≡ wordAfter v (rowsOf q rows) (machineOf q) word₀
+    word-is (found w) x = rw (found-word-is w x)
+    word-is never x = refl
+    word-is noRoom x = refl
+
+    pub decides : rows ≡ decideRoom q keys₀ path₀ → Decides (decidedQuestion q keys₀ path₀ word₀) answer₁ keys₁ path₁ word₁
+    unfolding decidedQuestion
+    decides r = rw (← r) record {
+      answer = a .answer ∙ ap (λ (x : Explored). answerBy x path₁ word₀) (e .answer) ∙ answer-is (verdictOf q rows) refl;
+      keys = e .keys;
+      path = e .path;
+      word = a .word ∙ ap (λ (x : Explored). wordBy x path₁ word₀) (e .answer) ∙ word-is (verdictOf q rows) refl;
+    }
+
+-- where no row is lent, nothing changes
+pub decides-nothing : (q : Question) (keys : List ℤ) (path word : List ℕ) → 0 ≡ decideRoom q keys path
+    → Decides (decidedQuestion q keys path word) (DecideAnswer.NoRoom 0) keys path word
+unfolding decidedQuestion keyCells pathCells joined atFront
+decides-nothing q keys path word r =
+    rw (← r, no-rows (machineOf q)) record { answer = refl; keys = refl; path = refl; word = refl }
