@@ -1,5 +1,5 @@
 -- What deciding leaves: its answer and each lent buffer are those of a `Decided` of document 01's definitions.
-use mathlib.Core.Path.{_≡_}
+use mathlib.Core.Path.{_≡_, refl}
 use mathlib.Core.Bool.{true, false}
 use mathlib.Core.List.{List}
 use Prim.Native.Nat.{ℕ, _-_, _≤_, _<_}
@@ -7,10 +7,15 @@ use lib.ListN.{length}
 use lib.Dec.{leb}
 use lib.IntN.{ℤ}
 use borrow.Author.Tests.{le-leb, lt-leb}
+use Rattle.scope.specs.declared.Refusal.{Refusal}
+use Rattle.scope.specs.declared.ReadAnswer.{ReadAnswer}
+use Rattle.scope.specs.declared.Held.{Held}
 use Rattle.scope.specs.declared.DecideAnswer.{DecideAnswer}
 use Rattle.scope.specs.Whole.{atFront}
+use Rattle.scope.specs.Wire.{readHeld}
 use Rattle.scope.specs.Words.{Word}
-use Rattle.scope.specs.Deciding.{Decided, foundAnswer, foundWord}
+use Rattle.scope.specs.Deciding.{Decided, foundAnswer, foundWord, decidedQuestion, decided}
+use Rattle.theory.specs.Accepted.{WithinLimits, accepted-within}
 use Rattle.explore.specs.declared.Explored.{Explored}
 use Rattle.decide.specs.Path.{pathWord, Linked}
 
@@ -61,3 +66,19 @@ module _ (path word : List ℕ) (states letters : ℕ) (counts : letters ≡ len
   answers-found h word₁ e =
       let b : leb (length (wordFound path states)) (length word) ≡ true = le-leb _ _ (rw counts at h) in
       record { answer = rw (b, counts); word = rw b e }
+
+-- ---- by whether the bytes are accepted
+
+module _ (bytes : List ℕ) (h : Held) (read : h ≡ readHeld bytes) (keys : List ℤ) (path word : List ℕ) where
+  pub decides-refused : (r : Refusal) → h .answer ≡ ReadAnswer.Refused r → Decides (decided bytes keys path word) (DecideAnswer.Refused r) keys path word
+  unfolding decided
+  decides-refused r e = rw (← read, e) record { answer = refl; keys = refl; path = refl; word = refl }
+
+  module _ (accepted : h .answer ≡ ReadAnswer.Accepted) where
+    pub within-limits : WithinLimits (h .question)
+    within-limits = rw (← read) at (accepted-within bytes (rw (← read) accepted))
+
+    pub decides-accepted : {answer₁ : DecideAnswer} {keys₁ : List ℤ} {path₁ word₁ : List ℕ}
+        → Decides (decidedQuestion (h .question) keys path word) answer₁ keys₁ path₁ word₁ → Decides (decided bytes keys path word) answer₁ keys₁ path₁ word₁
+    unfolding decided
+    decides-accepted d = rw (← read, accepted) d

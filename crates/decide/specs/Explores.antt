@@ -1,30 +1,28 @@
 -- Exploring a question from its start: what it asks and what it leaves; that a row found in it can be read off the path area, and
 -- that the answer made of it is that of document 01's definitions.
 use mathlib.Core.Path.{_≡_, refl, sym, ap, _∙_}
-use mathlib.Core.Bool.{true, false}
-use mathlib.Core.List.{List, [], _∷_, _++_, append-nil}
-use Prim.Native.Nat.{ℕ, zero, suc, _+_, _-_, _*_, _/_, _≤_, _<_, min}
-use native.Mathlib.Nat.{le-refl, mul-le-mul-right, one-mul}
+use mathlib.Core.Bool.{true}
+use mathlib.Core.List.{List, [], _∷_, append-nil}
+use Prim.Native.Nat.{ℕ, suc, _+_, _-_, _*_, _≤_, _<_}
+use native.Mathlib.Nat.{mul-le-mul-right, one-mul}
 use native.Mathlib.Omega.{arith}
-use lib.ListN.{length, getD, take, drop, length-take, take-append-drop}
+use lib.ListN.{length, getD, take, length-take}
 use lib.Seq.{getD-take, length-take-le}
-use lib.Dec.{leb}
 use lib.Pow.{pow-mono}
 use lib.IntN.{ℤ}
 use Rattle.scope.specs.declared.Question.{Question}
 use Rattle.scope.specs.declared.DecideAnswer.{DecideAnswer}
 use Rattle.scope.specs.Whole.{joined, atFront}
 use Rattle.scope.specs.Question.{atomsOf, atomCount}
-use Rattle.scope.specs.Words.{Word}
 use Rattle.scope.specs.States.{State, cellsOf, startOf}
-use Rattle.scope.specs.Numbering.{Machine, Row, Rows, machineOf, startRow, row, numbered, wordOf}
-use Rattle.scope.specs.Deciding.{Verdict, found, never, noRoom, verdict, counted, decideRoom, keyCells, pathCells, foundAnswer, foundWord, decideAnswer, wordAfter, Decided, decidedQuestion}
+use Rattle.scope.specs.Numbering.{Machine, Row, Rows, machineOf, startRow, row, numbered}
+use Rattle.scope.specs.Deciding.{Verdict, found, never, noRoom, verdict, counted, decideRoom, keyCells, pathCells, decideAnswer, wordAfter, decidedQuestion}
 use Rattle.theory.specs.Lawful.{machine-lawful}
 use Rattle.theory.specs.Table.{Rooted, numbered-rooted}
 use Rattle.theory.specs.Exploring.{start-found, start-counted, no-rows}
-use Rattle.theory.specs.Simulation.{Simulates, rowsMap, states-map, paths-map, same-verdict, same-length, same-counted}
+use Rattle.theory.specs.Simulation.{Simulates, states-map, paths-map, same-verdict, same-length, same-counted}
 use Rattle.theory.specs.Joined.{joined-at, atFront-before, atFront-length}
-use Rattle.theory.specs.Lengths.{path-length, keys-length, Counted, counted-are}
+use Rattle.theory.specs.Lengths.{path-length, keys-length, counted-are}
 use Rattle.theory.specs.Deciding.{rowsOf, rowWord, verdictOf, countedRows, FoundAt, found-exactly}
 use Rattle.theory.specs.Accepted.{WithinLimits}
 use Rattle.step.specs.Eight.{padded}
@@ -33,7 +31,7 @@ use Rattle.step.specs.Laws.{start-cells}
 use Rattle.explore.specs.declared.Explored.{Explored}
 use Rattle.explore.specs.Areas.{rowCells, pathRows, front-twice}
 use Rattle.explore.specs.Outcome.{exploredAs, Numbered}
-use Rattle.decide.specs.Path.{pathWord, Linked, fromAt, letterAt, rows-linked, rows-word}
+use Rattle.decide.specs.Path.{fromAt, letterAt, rows-linked, rows-word}
 use Rattle.decide.specs.Start.{StartPut}
 use Rattle.decide.specs.Decides.{Decides, wordFound, answerBy, wordBy, Answers, Spelt, SpeltIf}
 
@@ -117,11 +115,11 @@ module _ (q : Question) {kinds : List ℕ} {m rows : ℕ} {keys₀ : List ℤ} {
 
 -- ---- the answer
 
-module _ (q : Question) (rows : ℕ) (few : q .n ≤ 6) {keys₀ : List ℤ} {path₀ : List ℕ} (room : 2 * rows ≤ length path₀) {keys₁ : List ℤ} {path₁ : List ℕ} {explored : Explored}
-    (e : Explores q rows keys₀ path₀ keys₁ path₁ explored) where
+module _ {q : Question} {kinds : List ℕ} {m rows : ℕ} {keys₀ : List ℤ} {path₀ : List ℕ} (ask : Lends q kinds m rows keys₀ path₀)
+    {keys₁ : List ℤ} {path₁ : List ℕ} {explored : Explored} (e : Explores q rows keys₀ path₀ keys₁ path₁ explored) where
   few-letters : machineOf q .letters ≤ 64
   unfolding machineOf
-  few-letters = pow-mono few
+  few-letters = pow-mono (ask .limits .variables)
 
   module _ (w : ℕ) (is-found : verdictOf q rows ≡ found w) where
     at : FoundAt q rows w
@@ -154,7 +152,7 @@ module _ (q : Question) (rows : ℕ) (few : q .n ≤ 6) {keys₀ : List ℤ} {pa
     found-spelt =
         let l = take (suc w) (rowsOf q rows) in
         let n : length l ≡ suc w = length-take-le (suc w) (rowsOf q rows) (at .inside) in
-        let fits : length (pathCells l) ≤ length path₀ = omega (arith, path-length l, at .room) in
+        let fits : length (pathCells l) ≤ length path₀ = omega (arith, path-length l, at .room, ask .path-room) in
         let d : suc w - 1 ≡ w = omega arith in
         let size : 2 * w + 1 < length path₁ = omega (arith, ap length path-is, atFront-length (pathCells l) path₀ fits, at .room) in
         record { some = omega arith; linked = rw d (rows-linked (machineOf q) rooted path₁ w (at .inside) froms letters-are few-letters size) }
@@ -193,8 +191,8 @@ module _ (q : Question) (rows : ℕ) (few : q .n ≤ 6) {keys₀ : List ℤ} {pa
     }
 
 -- where no row is lent, nothing changes
-pub decides-nothing : (q : Question) (keys : List ℤ) (path word : List ℕ) → 0 ≡ decideRoom q keys path
+pub decides-nothing : (q : Question) (keys : List ℤ) (path word : List ℕ) {rows : ℕ} → rows ≡ 0 → rows ≡ decideRoom q keys path
     → Decides (decidedQuestion q keys path word) (DecideAnswer.NoRoom 0) keys path word
 unfolding decidedQuestion keyCells pathCells joined atFront
-decides-nothing q keys path word r =
-    rw (← r, no-rows (machineOf q)) record { answer = refl; keys = refl; path = refl; word = refl }
+decides-nothing q keys path word z r =
+    rw (← r, z, no-rows (machineOf q)) record { answer = refl; keys = refl; path = refl; word = refl }

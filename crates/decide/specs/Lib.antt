@@ -4,3 +4,5 @@ pub mod Path
 pub mod Start
 pub mod Simulated
 pub mod Explores
+pub mod Handed
+pub mod Room

@@ -1,12 +1,12 @@
 -- The word of a state, read off the path area from the state back to the start: cells 2 t and 2 t + 1 have the state and the letter
 -- from which state t was numbered. Where numbered rows stand in the area, it is the word by which the row was numbered.
 use Prim.Native.Nat.{ℕ, zero, suc, _+_, _-_, _*_, _≤_, _<_}
-use mathlib.Core.Path.{_≡_, refl, sym, ap, _∙_}
-use mathlib.Core.List.{List, [], _∷_, _++_, append-assoc}
+use mathlib.Core.Path.{_≡_, refl, ap}
+use mathlib.Core.List.{List, [], append-assoc}
 use native.Mathlib.Nat.{le-refl}
 use native.Mathlib.Numerals.{add-one}
 use native.Mathlib.Omega.{arith}
-use lib.ListN.{length, getD, drop, set, length-append, length-set}
+use lib.ListN.{length, getD, set, length-append, length-set}
 use lib.Seq.{drop-cons, getD-set-same, drop-set-lt}
 use Rattle.scope.specs.Whole.{atFront}
 use Rattle.scope.specs.Words.{Word, _▹_}

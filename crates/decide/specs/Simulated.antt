@@ -1,23 +1,23 @@
 -- The machine of key rows does what a question's machine does: a key row that has the cells of a state accepts, steps and is told apart
 -- from others as the state is.
-use mathlib.Core.Path.{_≡_, refl, sym, ap, _∙_}
-use mathlib.Core.Bool.{Bool, true, false, true≢false}
+use mathlib.Core.Path.{_≡_, refl, sym, _∙_}
+use mathlib.Core.Bool.{Bool, true, false}
 use mathlib.Core.List.{List, map}
-use Prim.Native.Nat.{ℕ, _+_, _*_, _^_, _≤_, _<_}
-use native.Mathlib.Nat.{le-refl, zero-add}
+use Prim.Native.Nat.{ℕ, _^_, _<_}
+use native.Mathlib.Nat.{zero-add}
 use native.Mathlib.Omega.{arith}
-use lib.ListN.{length, getD, take, drop, length-map}
+use lib.ListN.{length, length-map}
 use lib.Seq.{take-all}
 use lib.IntN.{ℤ, pos}
 use Rattle.scope.specs.declared.Question.{Question}
 use Rattle.scope.specs.Question.{Atom, nodeOf, nodesOf, atomsOf, atomCount}
 use Rattle.scope.specs.States.{State, cellOf, cellsOf, startOf, stepOf, worthsOf, sameState, formulaWorth, accepting}
-use Rattle.scope.specs.Numbering.{Machine, machineOf}
+use Rattle.scope.specs.Numbering.{machineOf}
 use Rattle.theory.specs.Lawful.{same-state-sound, same-state-refl}
 use Rattle.theory.specs.Range.{StateIn, length-in, startOf-in, stepOf-in}
 use Rattle.theory.specs.Cells.{AtomsFit, cellsOf-injective}
 use Rattle.theory.specs.Simulation.{Simulates}
-use Rattle.formula.specs.Alike.{Alike, worth-alike}
+use Rattle.formula.specs.Alike.{worth-alike}
 use Rattle.step.specs.Eight.{padded, take-padded, getD-padded, length-listed}
 use Rattle.step.specs.Cells.{stepAt, stepCells, worthCells}
 use Rattle.step.specs.Atoms.{limits-fit}

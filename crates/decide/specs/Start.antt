@@ -1,10 +1,10 @@
 -- The start as row 0: its cells are the front of the constants, and its path cells are 0 and 0.
-use mathlib.Core.Path.{_≡_, refl, ap, _∙_}
-use mathlib.Core.List.{List, [], _∷_, _++_}
-use Prim.Native.Nat.{ℕ, suc, _+_, _*_, _≤_}
+use mathlib.Core.Path.{_≡_, refl, _∙_}
+use mathlib.Core.List.{List, [], _∷_}
+use Prim.Native.Nat.{ℕ, _*_, _≤_}
 use native.Mathlib.Nat.{zero-mul, zero-add}
 use native.Mathlib.Omega.{arith}
-use lib.ListN.{length, take, drop, set}
+use lib.ListN.{length, take, set}
 use lib.Seq.{paste, length-take-le}
 use lib.IntN.{ℤ}
 use Rattle.scope.specs.Whole.{atFront}

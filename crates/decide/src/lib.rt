@@ -1,13 +1,22 @@
 // Deciding a question: the first word that its machine accepts, or that there is none, or that the areas lent have no room to tell.
 use explore::Explored;
+use explore::accepts;
+use explore::number_rows;
 use index::store_row;
 use scope::DecideAnswer;
+use scope::ReadAnswer;
+use step::kinds_of;
+use step::letter_sums;
+use step::letters;
 ghost use mathlib.Core.Path.{_≡_};
 ghost use Prim.Native.Nat.{_/_, _≤_, _<_, min};
 ghost use lib.ListN.{length};
 ghost use Rattle.scope.specs.Whole.{atFront};
 ghost use Rattle.scope.specs.Sizes.{mostStates};
-ghost use Rattle.decide.specs.Decides.{Answers, Spelt, SpeltIf};
+ghost use Rattle.scope.specs.Deciding.{decidedQuestion, decided};
+ghost use Rattle.theory.specs.Accepted.{WithinLimits};
+ghost use Rattle.decide.specs.Decides.{Decides, Answers, Spelt, SpeltIf};
+ghost use Rattle.decide.specs.Explores.{heldQuestion, Lends, Explores};
 ghost use Rattle.decide.specs.Path.{pathWord, Linked};
 ghost use Rattle.decide.specs.Start.{StartPut};
 
@@ -87,4 +96,78 @@ fn answer(explored: Explored, path: &[u16], word: &mut [u8]) -> DecideAnswer
         Explored::All { states } => DecideAnswer::Never { states },
         Explored::NoRoom { states } => DecideAnswer::NoRoom { states },
     }
+}
+
+// Numbers a question's rows from its start on, until one accepts.
+fn explore_question(
+    n: usize,
+    codes: &[u8; 64],
+    coefficients: &[i32; 48],
+    constants: &[i32; 8],
+    kinds: &[u8; 8],
+    m: usize,
+    rows: usize,
+    keys: &mut [i32],
+    path: &mut [u16],
+) -> Explored
+    requires { ⌜ Lends (heldQuestion n (now codes) (now coefficients) (now constants)) (now kinds) m rows (now keys) (now path) ⌝ }
+    ensures { λ r. ⌜ Explores (heldQuestion n (now (codes .entry)) (now (coefficients .entry)) (now (constants .entry))) rows (now (keys .entry)) (now (path .entry)) (now (keys .exit)) (now (path .exit)) r ⌝ }
+{
+    let sums = letter_sums(n, m, coefficients);
+    put_start(constants, m, keys, path);
+    if accepts(codes, kinds, m, keys, 0) {
+        return Explored::Found { states: 1 };
+    }
+    number_rows(codes, kinds, m, &sums, letters(n), keys, path, rows, true)
+}
+
+// Decides a question that was accepted, which is handed over by its parts.
+fn decide_question(
+    n: usize,
+    codes: &[u8; 64],
+    coefficients: &[i32; 48],
+    constants: &[i32; 8],
+    keys: &mut [i32],
+    path: &mut [u16],
+    word: &mut [u8],
+) -> DecideAnswer
+    requires { ⌜ WithinLimits (heldQuestion n (now codes) (now coefficients) (now constants)) ⌝ }
+    ensures { λ r. ⌜ Decides (decidedQuestion (heldQuestion n (now (codes .entry)) (now (coefficients .entry)) (now (constants .entry))) (now (keys .entry)) (now (path .entry)) (now (word .entry))) r (now (keys .exit)) (now (path .exit)) (now (word .exit)) ⌝ }
+{
+    let atoms = kinds_of(codes);
+    let kinds = atoms.kinds;
+    let m = atoms.m;
+    let rows = room(keys.len(), path.len(), m);
+    if rows == 0 {
+        return DecideAnswer::NoRoom { states: 0 };
+    }
+    let explored = explore_question(
+        n,
+        codes,
+        coefficients,
+        constants,
+        &kinds,
+        m,
+        rows,
+        keys,
+        path,
+    );
+    answer(explored, path, word)
+}
+
+// Decides the question that the bytes say.
+pub fn decide(bytes: &[u8], keys: &mut [i32], path: &mut [u16], word: &mut [u8]) -> DecideAnswer
+    ensures { λ r. ⌜ Decides (decided (now (bytes .entry)) (now (keys .entry)) (now (path .entry)) (now (word .entry))) r (now (keys .exit)) (now (path .exit)) (now (word .exit)) ⌝ }
+{
+    let held = wire::read(bytes);
+    let answer = held.answer;
+    if let ReadAnswer::Refused(refusal) = answer {
+        return DecideAnswer::Refused(refusal);
+    }
+    let question = held.question;
+    let n = question.n as usize;
+    let codes = question.codes;
+    let coefficients = question.coefficients;
+    let constants = question.constants;
+    decide_question(n, &codes, &coefficients, &constants, keys, path, word)
 }

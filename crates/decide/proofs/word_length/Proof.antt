@@ -1,7 +1,7 @@
 -- `decide::word_length` meets its contract. The invariant: the letters counted and those of state t's word are the letters of the word.
 -- The measure is t, since each state is numbered from one before it.
 use mathlib.Core.Path.{_≡_, ap, _∙_}
-use Prim.Native.Nat.{ℕ, _+_, _*_, _≤_}
+use Prim.Native.Nat.{_+_, _*_, _≤_}
 use native.Mathlib.Omega.{arith}
 use borrow.Author.Needs.{needs}
 use lib.ListN.{length}
