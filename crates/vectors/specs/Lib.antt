@@ -1,0 +1,1 @@
+-- Nothing: what this program does is tested.
