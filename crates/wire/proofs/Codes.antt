@@ -1,11 +1,11 @@
 -- Node codes and the nodes that they stand for.
 use mathlib.Core.Path.{_≡_, refl}
-use mathlib.Core.Bool.{true, false}
+use mathlib.Core.Bool.{true, false, not}
 use Prim.Native.Nat.{ℕ, zero, suc, _≤_}
 use native.Mathlib.Omega.{arith}
 use borrow.Author.Tests.{ne-eqb, lt-leb}
 use lib.Dec.{leb}
-use Rattle.scope.specs.Question.{Node, unused, atom, equation, atMost, nodeOf, codeOf, isAtom, parts}
+use Rattle.scope.specs.Question.{Node, unused, atom, equation, atMost, nodeOf, codeOf, isUnused, isAtom, parts}
 
 pub node-of-code : (x : Node) → nodeOf (codeOf x) ≡ x
 node-of-code unused = refl
@@ -62,3 +62,13 @@ atom-test (suc (suc (suc (suc zero)))) h = refl
 atom-test (suc (suc (suc (suc (suc zero))))) h = refl
 atom-test (suc (suc (suc (suc (suc (suc c)))))) h =
     rw (lt-leb (suc (suc (suc (suc (suc (suc c)))))) 2 (omega arith), other-code (suc (suc (suc (suc (suc (suc c)))))) (omega arith))
+
+pub node-test : (c : ℕ) → (c ≡ 0 → ⊥) → leb c 5 ≡ not (isUnused (nodeOf c))
+node-test zero h = absurd (h refl)
+node-test (suc zero) h = refl
+node-test (suc (suc zero)) h = refl
+node-test (suc (suc (suc zero))) h = refl
+node-test (suc (suc (suc (suc zero)))) h = refl
+node-test (suc (suc (suc (suc (suc zero))))) h = refl
+node-test (suc (suc (suc (suc (suc (suc c)))))) h =
+    rw (lt-leb (suc (suc (suc (suc (suc (suc c)))))) 5 (omega arith), other-code (suc (suc (suc (suc (suc (suc c)))))) (omega arith))

@@ -8,3 +8,7 @@ pub mod Codes
 pub mod Shapes
 pub mod Bodies
 pub mod Wholes
+pub mod Sweeps
+pub mod Checking
+pub mod Lengths
+pub mod Walks

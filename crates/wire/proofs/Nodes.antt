@@ -102,11 +102,11 @@ module _ (b : List ℕ) (at : ℕ) (q : Question) where
 
 -- ---- a node
 
-node-none : (o : Option Refusal) (n : ℕ) (x : Node) (code len : ℕ) → nodeOr o n x ≡ NodeAnswer.Node code len → (o ≡ none) × ((code ≡ codeOf x) × (len ≡ bodyLength n x))
+pub node-none : (o : Option Refusal) (n : ℕ) (x : Node) (code len : ℕ) → nodeOr o n x ≡ NodeAnswer.Node code len → (o ≡ none) × ((code ≡ codeOf x) × (len ≡ bodyLength n x))
 node-none none n x code len e = (refl, (cc, cc))
 node-none (some r) n x code len e = let z : _≡_ {A = ℕ} 0 1 = cc in absurd (omega arith)
 
-node-some : (o : Option Refusal) (n : ℕ) (x : Node) (r : Refusal) → nodeOr o n x ≡ NodeAnswer.Refused r → o ≡ some r
+pub node-some : (o : Option Refusal) (n : ℕ) (x : Node) (r : Refusal) → nodeOr o n x ≡ NodeAnswer.Refused r → o ≡ some r
 node-some none n x r e = let z : _≡_ {A = ℕ} 0 1 = cc in absurd (omega arith)
 node-some (some s) n x r e = cc
 
@@ -182,7 +182,7 @@ pub record NodeTaken (b : List ℕ) (at n nodes atoms depth code len : ℕ) : Ty
   pub few : isAtom (nodeOf code) ≡ true → atoms < 8
   pub shallow : depth ≤ 16
 
-few-atoms : (t : Bool) (atoms : ℕ) → (not t || ltb atoms 8) ≡ true → t ≡ true → atoms < 8
+pub few-atoms : (t : Bool) (atoms : ℕ) → (not t || ltb atoms 8) ≡ true → t ≡ true → atoms < 8
 few-atoms true atoms e a = ltb-true atoms 8 e
 few-atoms false atoms e a = let z : _≡_ {A = ℕ} 0 1 = cc in absurd (omega arith)
 

@@ -37,7 +37,7 @@ due-none s h t = let l : length (s .due) ≤ s .top = omega (arith, h .full) in 
 -- ---- steps onward
 
 module _ {A B : Type 0} (step : A → Progress A B) where
-  onward-first : (nodes : ℕ) (a : A) → nodes ≤ 64 → onward (65 - nodes) step (going a) ≡ onward (64 - nodes) step (step a)
+  pub onward-first : (nodes : ℕ) (a : A) → nodes ≤ 64 → onward (65 - nodes) step (going a) ≡ onward (64 - nodes) step (step a)
   unfolding onward
   onward-first nodes a h = let e : 65 - nodes ≡ suc (64 - nodes) = omega arith in rw e
 
@@ -45,6 +45,11 @@ module _ {A B : Type 0} (step : A → Progress A B) where
   unfolding onward
   onward-stopped zero r = refl
   onward-stopped (suc f) r = refl
+
+  pub onward-ended : (f : ℕ) (e : B) → onward f step (ended e) ≡ ended e
+  unfolding onward
+  onward-ended zero e = refl
+  onward-ended (suc f) e = refl
 
   onward-settled : (f : ℕ) (o : Option Refusal) (e : B) → onward f step (orStopped o (ended e)) ≡ orStopped o (ended e)
   unfolding onward

@@ -43,6 +43,9 @@ at-most-six : (n : ℕ) (t : Bool) → (t && leb n 6) ≡ true → n ≤ 6
 at-most-six n true e = leb-true n 6 e
 at-most-six n false e = let z : _≡_ {A = ℕ} 0 1 = cc in absurd (omega arith)
 
+pub few-variables : (n : ℕ) → variablesFit n ≡ true → n ≤ 6
+few-variables n e = at-most-six n (leb 1 n) e
+
 module _ (b : List ℕ) (at : ℕ) where
   abbrev begun : Progress Reading Ended
   begun = going (record { question = headed (byteAt b (at + 4)); shape = wire.unread; place = at + 5 })

@@ -11,6 +11,7 @@ mod numbers;
 mod reading;
 mod records;
 mod shape;
+mod writing;
 
 use reading::FrameAnswer;
 use reading::HeadAnswer;

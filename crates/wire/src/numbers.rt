@@ -3,10 +3,20 @@ ghost use mathlib.Core.Path.{_≡_};
 ghost use Prim.Native.Nat.{_+_, _*_, _≤_};
 ghost use lib.ListN.{length};
 ghost use lib.Seq.{sets};
-ghost use Rattle.scope.specs.Sizes.{coefficientFits, constantFits, numbersFit};
+ghost use Rattle.scope.specs.Sizes.{variablesFit, coefficientFits, constantFits, numbersFit};
 ghost use Rattle.scope.specs.Wire.{numberAt, numbersAt};
+use crate::records::count_of;
 use scope::Question;
 use whole::number_at;
+
+pub fn variables_fit(n: u8) -> bool
+    ensures { λ r. ⌜ r ≡ variablesFit n ⌝ }
+{
+    if n < 1 {
+        return false;
+    }
+    count_of(n) <= Question::VARIABLES
+}
 
 pub fn coefficient_fits(number: i32) -> bool
     ensures { λ r. ⌜ r ≡ coefficientFits number ⌝ }

@@ -9,6 +9,7 @@ ghost use Rattle.scope.specs.Wire.{nodeOfKind, bodyLength};
 ghost use Rattle.wire.specs.Steps.{frameAnswer, headAnswer, nodeFrame, nodeAnswer, Notable, notedBody};
 use crate::body;
 use crate::numbers::numbers_fit;
+use crate::numbers::variables_fit;
 use crate::numbers::with_numbers;
 use crate::records::HeaderAnswer;
 use crate::records::count_of;
@@ -73,19 +74,13 @@ pub fn head_at(bytes: &[u8], at: usize) -> HeadAnswer
         FrameAnswer::Refused(refusal) => HeadAnswer::Refused(refusal),
         FrameAnswer::There => {
             let n = bytes[at + 4];
-            if n < 1 {
-                return HeadAnswer::Refused(Refusal {
-                    number: 4,
-                    place: at,
-                });
+            if variables_fit(n) {
+                return HeadAnswer::Head(n);
             }
-            if Question::VARIABLES < count_of(n) {
-                return HeadAnswer::Refused(Refusal {
-                    number: 4,
-                    place: at,
-                });
-            }
-            HeadAnswer::Head(n)
+            HeadAnswer::Refused(Refusal {
+                number: 4,
+                place: at,
+            })
         }
     }
 }

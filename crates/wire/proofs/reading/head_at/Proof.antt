@@ -4,7 +4,7 @@ use mathlib.Core.Path.{_≡_, sym, _∙_}
 use denote.Ref.{now}
 use Rattle.wire.specs.Steps.{frameAnswer}
 use Rattle.wire.specs.declared.reading.FrameAnswer.{FrameAnswer}
-use Rattle.wire.proofs.Nodes.{frame-within, head-refused, head-beyond, head-there, variables-none, variables-many, variables-fit}
+use Rattle.wire.proofs.Nodes.{frame-within, head-refused, head-beyond, head-there}
 use borrow.Author.Needs.{needs}
 use Rattle.wire.proofs.reading.head_at.Statement.{statement}
 use Rattle.wire.proofs.reading.head_at.Tie as tie
@@ -21,25 +21,21 @@ shared-slice-read-n c =
 
 returns : tie.Need-returns
 returns c =
-    let a = c .before .before .before .before .before .before .args in head-beyond (now (a .bytes)) (a .at) (there (c .before .before)) (variables-none _ (c .if1 .taken))
+    let a = c .before .before .before .before .before .before .before .args in
+    head-there (now (a .bytes)) (a .at) (there (c .before .before .before)) (sym (c .before .variables-fit .ensures) ∙ c .if1 .taken)
 
 returns-2 : tie.Need-returns-2
 returns-2 c =
-    let a = c .before .before .before .before .before .before .before .before .args in
-    head-beyond (now (a .bytes)) (a .at) (there (c .before .before .before .before)) (variables-many _ (c .before .before .if1 .left) (omega (arith, c .before .count-of .ensures)))
-
-returns-3 : tie.Need-returns-3
-returns-3 c =
     let a = c .before .before .before .before .before .args in
     head-refused (now (a .bytes)) (a .at) _ (sym (c .before .before .before .frame-at .ensures) ∙ c .before .refusal .given .1)
 
-returns-4 : tie.Need-returns-4
-returns-4 c =
-    let a = c .before .before .before .before .before .before .before .before .args in
-    head-there (now (a .bytes)) (a .at) (there (c .before .before .before .before)) (variables-fit _ (c .before .before .if1 .left) (omega (arith, c .before .count-of .ensures)))
+returns-3 : tie.Need-returns-3
+returns-3 c =
+    let a = c .before .before .before .before .before .before .before .args in
+    head-beyond (now (a .bytes)) (a .at) (there (c .before .before .before)) (sym (c .before .variables-fit .ensures) ∙ c .if1 .left)
 
 pub head-at-spec : {M : Type 1} → statement M
 head-at-spec =
     tie.close
-    (tie.spec (λ c κs. search needs) (λ c. search needs) (λ c. search needs) add-n shared-slice-read-n returns
-    (λ c κs. search needs) returns-2 returns-3 returns-4)
+    (tie.spec (λ c κs. search needs) (λ c. search needs) (λ c. search needs) add-n shared-slice-read-n
+    (λ c κs. search needs) returns returns-2 returns-3)

@@ -1,0 +1,63 @@
+-- The lengths of a question's bytes.
+use mathlib.Core.Path.{_≡_, refl, sym, ap, _∙_}
+use mathlib.Core.Bool.{Bool, true, false, cond}
+use mathlib.Core.List.{List, [], _∷_, _++_, map}
+use Prim.Native.Nat.{ℕ, zero, suc, _+_, _*_, _<_, _≤_}
+use native.Mathlib.Omega.{arith}
+use native.Mathlib.Numerals.{add-one}
+use lib.IntN.{ℤ}
+use lib.ListN.{length, take, drop, length-append, length-drop}
+use lib.Seq.{length-take-le}
+use Rattle.scope.specs.declared.Question.{Question}
+use Rattle.scope.specs.Whole.{joined}
+use Rattle.scope.specs.Question.{Node, isAtom, coefficientsOf, constantOf}
+use Rattle.scope.specs.Wire.{kindOf, bodyLength}
+use Rattle.scope.specs.Writing.{numberBytes, recordBytes, atomBody, nodeBytes}
+use Rattle.wire.specs.Writes.{codeNode, atomsTo, bytesTo}
+
+pub record-length : (kind : ℕ) (body : List ℕ) → length (recordBytes kind body) ≡ 4 + length body
+record-length kind body = omega arith
+
+joined-length : (cs : List ℤ) → length (joined (map numberBytes cs)) ≡ 4 * length cs
+unfolding joined
+joined-length [] = refl
+joined-length (a ∷ cs) = omega (arith, joined-length cs)
+
+pub body-length : (cs : List ℤ) (k : ℤ) → length (atomBody cs k) ≡ 4 * length cs + 4
+unfolding atomBody
+body-length cs k = length-append (joined (map numberBytes cs)) (numberBytes k) ∙ omega (arith, joined-length cs)
+
+-- of a question that holds 48 coefficients and names no more than six variables
+module _ (q : Question) (full : length (q .coefficients) ≡ 48) (few : q .n ≤ 6) where
+  pub row-length : (a : ℕ) → a < 8 → length (coefficientsOf q a) ≡ q .n
+  unfolding coefficientsOf
+  row-length a h = length-take-le (q .n) (drop (6 * a) (q .coefficients)) (rw length-drop (omega arith))
+
+  pub node-length : (x : Node) (a : ℕ) → (isAtom x ≡ true → a < 8) → length (nodeBytes q x a) ≡ 4 + bodyLength (q .n) x
+  unfolding nodeBytes
+  node-length x a h = by (isAtom x) refl
+    where
+      by : (t : Bool) → isAtom x ≡ t → length (nodeBytes q x a) ≡ 4 + bodyLength (q .n) x
+      by true e = rw e (record-length (kindOf x) (atomBody (coefficientsOf q a) (constantOf q a)) ∙ omega (arith, body-length (coefficientsOf q a) (constantOf q a), row-length a (h e)))
+      by false e = rw e (record-length (kindOf x) [])
+
+pub body-small : (n : ℕ) (x : Node) → n ≤ 6 → bodyLength n x ≤ 28
+body-small n x h = by (isAtom x) refl
+  where
+    by : (t : Bool) → isAtom x ≡ t → bodyLength n x ≤ 28
+    by true e = rw e (omega arith)
+    by false e = rw e (omega arith)
+
+-- ---- the bytes and atoms of the first nodes
+
+pub bytes-head : (q : Question) → length (bytesTo q 0) ≡ 5
+unfolding bytesTo
+bytes-head q = refl
+
+pub bytes-next : (q : Question) (i : ℕ) → bytesTo q (i + 1) ≡ bytesTo q i ++ nodeBytes q (codeNode q i) (atomsTo q i)
+unfolding bytesTo
+bytes-next q i = rw add-one
+
+pub atoms-next : (q : Question) (i : ℕ) → atomsTo q (i + 1) ≡ atomsTo q i + cond (isAtom (codeNode q i)) 1 0
+unfolding atomsTo
+atoms-next q i = rw add-one

@@ -1,0 +1,71 @@
+-- `wire::writing::formula_of` meets its contract: what is still to be walked leads to the whole.
+use borrow.Author.Needs.{needs}
+use native.Mathlib.Omega.{arith}
+use mathlib.Core.Path.{_≡_, sym, ap, _∙_}
+use Prim.Native.Nat.{ℕ, _-_}
+use lib.ListN.{length}
+use Rattle.wire.specs.Writes.{codeNode, codeAnswer}
+use Rattle.wire.specs.Formula.{depthOf}
+use Rattle.wire.specs.declared.reading.NodeAnswer.{NodeAnswer}
+use Rattle.wire.proofs.Lengths.{body-small}
+use Rattle.wire.proofs.Turns.{grown-nodes}
+use Rattle.wire.proofs.Checking.{CodeTaken, code-taken}
+use Rattle.wire.proofs.Walks.{Walking, walking-start, walking-end, walking-refused, walking-again}
+use Rattle.wire.proofs.writing.formula_of.Statement.{statement}
+use Rattle.wire.proofs.writing.formula_of.Tie as tie
+
+abbrev Inv-loop : tie.InvT-loop
+Inv-loop question shape₀ len₀ shape len = Walking question shape len
+
+abbrev μ-loop : tie.MeasureT-loop
+μ-loop question shape₀ len₀ shape len = 65 - shape .nodes
+
+full : (c : tie.Start Inv-loop μ-loop) → length (c .args .question .coefficients) ≡ 48
+full c = search needs
+
+answer : (c : tie.After-code-at Inv-loop μ-loop) → c .code-at .result ≡ codeAnswer (c .before .before .before .before .before .before .args .question) (c .before .before .before .before .loop .shape .nodes) (c .before .before .before .before .loop .shape .atoms) (depthOf (c .before .before .before .before .loop .shape))
+answer c = c .code-at .ensures ∙ ap (codeAnswer (c .before .before .before .before .before .before .args .question) (c .before .before .before .before .loop .shape .nodes) (c .before .before .before .before .loop .shape .atoms)) (c .before .count-of .ensures .0)
+
+node : (c : tie.After-known-told2 Inv-loop μ-loop)
+    → CodeTaken (c .before .before .before .before .before .before .before .before .before .args .question) (c .before .before .before .before .before .before .before .loop .shape .nodes) (c .before .before .before .before .before .before .before .loop .shape .atoms) (depthOf (c .before .before .before .before .before .before .before .loop .shape)) (c .before .code .given .0 .0) (c .before .code .given .0 .1 .0)
+node c = code-taken _ _ _ _ _ _ (sym (answer (c .before .before .before)) ∙ c .before .code .given .1)
+
+loop-holds : tie.Need-loop-holds Inv-loop μ-loop
+loop-holds c = walking-start (c .before .args .question) (c .unread .result) (c .unread .ensures)
+
+returns : tie.Need-returns Inv-loop μ-loop
+returns c =
+    walking-refused (c .before .before .before .before .before .before .before .before .before .args .question) (c .before .before .before .before .before .before .before .loop .shape) (c .before .before .before .before .before .before .before .loop .len) (c .before .before .before .before .before .before .before .loop .inv) (c .before .before .before .before .before .before .loop-test .taken) _ (sym (answer (c .before .before .before)) ∙ c .before .refusal .given .1)
+
+grown-requires : tie.Need-grown-requires Inv-loop μ-loop
+grown-requires c κs =
+    let k = node c in
+    record { sound = c .before .before .before .before .before .before .before .loop .inv .sound; due = c .before .before .before .before .before .before .loop-test .taken; room = k .room; shallow = k .shallow; node = k .used; known = k .small }
+
+add-len : tie.Need-add-len Inv-loop μ-loop
+add-len c =
+    omega (arith, c .before .before .before .before .before .before .before .before .loop .inv .short, c .before .before .before .before .before .before .before .before .loop .inv .sound .bounded)
+
+add-len-2 : tie.Need-add-len-2 Inv-loop μ-loop
+add-len-2 c =
+    let k = node (c .before) in
+    omega (arith, c .before .before .before .before .before .before .before .before .loop .inv .short, c .before .before .before .before .before .before .before .before .loop .inv .sound .bounded, k .lenIs, body-small _ (codeNode (c .before .before .before .before .before .before .before .before .before .before .args .question) (c .before .before .before .before .before .before .before .before .loop .shape .nodes)) (c .before .before .before .before .before .before .before .before .before .before .pre))
+
+loop-less : tie.Need-loop-less Inv-loop μ-loop
+loop-less c = omega (arith, node (c .before) .room, grown-nodes _ _ _ (c .grown .ensures))
+
+loop-again : tie.Need-loop-again Inv-loop μ-loop
+loop-again c =
+    walking-again (c .before .before .before .before .before .before .before .before .before .before .args .question) (c .before .before .before .before .before .before .before .before .loop .shape) (c .before .before .before .before .before .before .before .before .loop .len) (c .before .before .before .before .before .before .before .before .loop .inv) (c .before .before .before .before .before .before .before .loop-test .taken)
+    (full (c .before .before .before .before .before .before .before .before .before .before)) (c .before .before .before .before .before .before .before .before .before .before .pre) _ _ (sym (answer (c .before .before .before .before)) ∙ c .before .before .code .given .1) (c .grown .result) (c .grown .ensures)
+
+returns-2 : tie.Need-returns-2 Inv-loop μ-loop
+returns-2 c =
+    walking-end (c .before .before .before .args .question) (c .before .loop .shape) (c .before .loop .len) (c .before .loop .inv) (c .loop-test .left)
+
+pub formula-of-spec : {M : Type 1} → statement M
+formula-of-spec =
+    tie.close
+    (tie.spec Inv-loop μ-loop (λ c κs. search needs) loop-holds (λ c. search needs) (λ c κs. search needs)
+    (λ c κs. search needs) (λ c. search needs) returns (λ c. search needs) grown-requires add-len add-len-2 loop-less
+    loop-again returns-2)

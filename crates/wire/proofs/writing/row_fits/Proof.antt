@@ -1,0 +1,51 @@
+-- `wire::writing::row_fits` meets its contract: whether the coefficients from i on fit says whether all do.
+use borrow.Author.Needs.{needs}
+use native.Mathlib.Omega.{arith}
+use mathlib.Core.Path.{_≡_, sym, _∙_, ap}
+use mathlib.Core.Bool.{Bool, true, false}
+use Prim.Native.Nat.{_-_, _+_, _≤_}
+use lib.IntN.{pos}
+use lib.ListN.{length, getD}
+use mir.Syntax.{w32}
+use mir.Val.{toZ, ofZ}
+use mir.ValLaws.{toZ-ofZ}
+use borrow.Author.Tests.{not-true, not-false}
+use Rattle.scope.specs.Sizes.{coefficientFits}
+use Rattle.wire.proofs.Sweeps.{RowFrom, row-start, row-again, row-not, row-whole}
+use Rattle.wire.proofs.writing.row_fits.Statement.{statement}
+use Rattle.wire.proofs.writing.row_fits.Tie as tie
+
+abbrev Inv-loop : tie.InvT-loop
+Inv-loop cell n coefficients i₀ i = RowFrom coefficients cell n i
+
+abbrev μ-loop : tie.MeasureT-loop
+μ-loop cell n coefficients i₀ i = n - i
+
+within : (c : tie.Start Inv-loop μ-loop) → c .args .cell + c .args .n ≤ length (c .args .t1)
+within c = search needs
+
+fits : (c : tie.After-coefficient-fits Inv-loop μ-loop) (t : Bool) → c .coefficient-fits .result ≡ t → coefficientFits (getD (c .before .before .before .before .args .t1) (c .before .before .before .before .args .cell + c .before .before .before .loop .i) (pos 0)) ≡ t
+fits c t e =
+    let z = getD (c .before .before .before .before .args .t1) (c .before .before .before .before .args .cell + c .before .before .before .loop .i) (pos 0) in
+    simp (toZ-ofZ w32 z (record { sfits = c .before .coefficient-fits-arg .given })) at (sym (c .coefficient-fits .ensures)) ∙ e
+
+loop-holds : tie.Need-loop-holds Inv-loop μ-loop
+loop-holds c = row-start (c .args .t1) (c .args .cell) (c .args .n)
+
+returns : tie.Need-returns Inv-loop μ-loop
+returns c =
+    row-not (c .before .before .before .before .before .args .t1) (c .before .before .before .before .before .args .cell) (c .before .before .before .before .before .args .n) (c .before .before .before .before .loop .i) (within (c .before .before .before .before .before)) (c .before .before .before .loop-test .taken) (c .before .before .before .before .loop .inv) (fits (c .before) false (not-true _ (c .if1 .taken)))
+
+loop-again : tie.Need-loop-again Inv-loop μ-loop
+loop-again c =
+    row-again (c .before .before .before .before .before .args .t1) (c .before .before .before .before .before .args .cell) (c .before .before .before .before .before .args .n) (c .before .before .before .before .loop .i) (within (c .before .before .before .before .before)) (c .before .before .before .loop-test .taken) (c .before .before .before .before .loop .inv) (fits (c .before) true (not-false _ (c .if1 .left)))
+
+returns-2 : tie.Need-returns-2 Inv-loop μ-loop
+returns-2 c =
+    row-whole (c .before .before .args .t1) (c .before .before .args .cell) (c .before .before .args .n) (c .before .loop .i) (c .loop-test .left) (c .before .loop .inv)
+
+pub row-fits-spec : {M : Type 1} → statement M
+row-fits-spec =
+    tie.close
+    (tie.spec Inv-loop μ-loop loop-holds (λ c. search needs) (λ c. search needs) (λ c. search needs)
+    (λ c κs. search needs) returns (λ c. search needs) (λ c. search needs) loop-again returns-2)
