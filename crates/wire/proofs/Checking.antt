@@ -7,18 +7,18 @@ use mathlib.Core.Logic.{by-cases}
 use Prim.Native.Nat.{ℕ, zero, suc, _+_, _-_, _*_, _<_, _≤_}
 use native.Mathlib.Omega.{arith}
 use native.Mathlib.Decide.{decLe}
-use borrow.Author.Tests.{lt-ltb, le-ltb, ltb-true, leb-true, le-leb}
+use borrow.Author.Tests.{lt-ltb, le-ltb, ltb-true, leb-true}
 use lib.Dec.{leb, ltb}
-use lib.IntN.{ℤ, pos}
+use lib.IntN.{pos}
 use lib.ListN.{getD, take, drop}
 use Rattle.scope.specs.declared.Question.{Question}
 use Rattle.scope.specs.declared.Refusal.{Refusal}
 use Rattle.scope.specs.Whole.{all, allFrom}
 use Rattle.scope.specs.Sizes.{variablesFit, coefficientFits, constantFits, numbersFit}
-use Rattle.scope.specs.Question.{Node, unused, nodeOf, codeOf, isUnused, isAtom, coefficientsOf, constantOf}
+use Rattle.scope.specs.Question.{Node, nodeOf, isUnused, isAtom, coefficientsOf, constantOf}
 use Rattle.scope.specs.Refusals.{Check, check, refusal, unlessPassed, firstRefusal, Progress, stopped, going, ended, orStopped, onward}
 use Rattle.scope.specs.Wire.{bodyLength, unread, endKind}
-use Rattle.scope.specs.Writing.{recordBytes, Walk, headWritten, partWritten, codeChecks, numbersClear, leftOver, endWritten, written}
+use Rattle.scope.specs.Writing.{recordBytes, Walk, headWritten, partWritten, numbersClear, leftOver, endWritten, written}
 use Rattle.wire.specs.declared.reading.NodeAnswer.{NodeAnswer}
 use Rattle.wire.specs.Steps.{nodeOr}
 use Rattle.wire.specs.Writes.{codeNode, bytesTo, codeCheckList, codeAnswer, walkAt, CodeLeft, coefficientClear, constantClear}

@@ -1,17 +1,17 @@
 -- The lengths of a question's bytes.
-use mathlib.Core.Path.{_≡_, refl, sym, ap, _∙_}
+use mathlib.Core.Path.{_≡_, refl, _∙_}
 use mathlib.Core.Bool.{Bool, true, false, cond}
 use mathlib.Core.List.{List, [], _∷_, _++_, map}
-use Prim.Native.Nat.{ℕ, zero, suc, _+_, _*_, _<_, _≤_}
+use Prim.Native.Nat.{ℕ, _+_, _*_, _<_, _≤_}
 use native.Mathlib.Omega.{arith}
 use native.Mathlib.Numerals.{add-one}
 use lib.IntN.{ℤ}
-use lib.ListN.{length, take, drop, length-append, length-drop}
+use lib.ListN.{length, drop, length-append, length-drop}
 use lib.Seq.{length-take-le}
 use Rattle.scope.specs.declared.Question.{Question}
 use Rattle.scope.specs.Whole.{joined}
 use Rattle.scope.specs.Question.{Node, isAtom, coefficientsOf, constantOf}
-use Rattle.scope.specs.Wire.{kindOf, bodyLength}
+use Rattle.scope.specs.Wire.{headKind, kindOf, bodyLength}
 use Rattle.scope.specs.Writing.{numberBytes, recordBytes, atomBody, nodeBytes}
 use Rattle.wire.specs.Writes.{codeNode, atomsTo, bytesTo}
 
@@ -53,6 +53,10 @@ body-small n x h = by (isAtom x) refl
 pub bytes-head : (q : Question) → length (bytesTo q 0) ≡ 5
 unfolding bytesTo
 bytes-head q = refl
+
+pub bytes-first : (q : Question) → bytesTo q 0 ≡ recordBytes headKind (q .n ∷ [])
+unfolding bytesTo
+bytes-first q = refl
 
 pub bytes-next : (q : Question) (i : ℕ) → bytesTo q (i + 1) ≡ bytesTo q i ++ nodeBytes q (codeNode q i) (atomsTo q i)
 unfolding bytesTo

@@ -12,3 +12,6 @@ pub mod Sweeps
 pub mod Checking
 pub mod Lengths
 pub mod Walks
+pub mod Stores
+pub mod Placing
+pub mod Outcomes

@@ -1,13 +1,13 @@
 -- Tests that sweep a list from an index on: every element, a row of coefficients, and codes that are left over.
 use mathlib.Core.Path.{_≡_, refl, sym, ap, _∙_}
-use mathlib.Core.Bool.{Bool, true, false, not, cond, _&&_, _||_}
-use mathlib.Core.Option.{Option, none, some}
-use mathlib.Core.List.{List, [], _∷_}
-use Prim.Native.Nat.{ℕ, zero, suc, _+_, _-_, _<_, _≤_}
+use mathlib.Core.Bool.{Bool, true, false, cond, _&&_}
+use mathlib.Core.Option.{some}
+use mathlib.Core.List.{List}
+use Prim.Native.Nat.{ℕ, suc, _+_, _-_, _<_, _≤_}
 use native.Mathlib.Omega.{arith}
 use native.Mathlib.Numerals.{add-one}
 use borrow.Author.Tests.{lt-ltb, le-ltb, eq-eqb, ne-eqb}
-use lib.Dec.{ltb, eqb}
+use lib.Dec.{eqb}
 use lib.IntN.{ℤ, pos, negsuc}
 use lib.ListN.{length, getD, take, drop, drop-of-length-le}
 use lib.Seq.{drop-cons}
@@ -15,7 +15,7 @@ use mir.Syntax.{w32}
 use mir.Val.{SFits, ofZ}
 use Rattle.scope.specs.Whole.{eqZ, all, allFrom}
 use Rattle.scope.specs.Sizes.{coefficientFits}
-use Rattle.scope.specs.Refusals.{Check, check, refusal, firstRefusal}
+use Rattle.scope.specs.Refusals.{Check, refusal, firstRefusal}
 use Rattle.scope.specs.Writing.{codeChecks}
 use Rattle.wire.specs.Writes.{CodeLeft}
 

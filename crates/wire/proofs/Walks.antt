@@ -1,22 +1,21 @@
 -- One turn of the walk over a held question's nodes, and what is still to be walked.
 use mathlib.Core.Path.{_≡_, refl, sym, ap, _∙_}
 use mathlib.Core.Bool.{Bool, true, false, cond}
-use mathlib.Core.Option.{Option, none, some}
-use mathlib.Core.List.{List, [], _∷_, _++_}
-use Prim.Native.Nat.{ℕ, zero, suc, _+_, _-_, _*_, _<_, _≤_}
+use mathlib.Core.Option.{Option}
+use mathlib.Core.List.{List, _++_}
+use Prim.Native.Nat.{ℕ, _+_, _-_, _*_, _<_, _≤_}
 use native.Mathlib.Omega.{arith}
-use native.Mathlib.Nat.{add-zero}
 use lib.ListN.{length, length-append}
 use Rattle.scope.specs.declared.Question.{Question}
 use Rattle.scope.specs.declared.Refusal.{Refusal}
 use Rattle.scope.specs.Question.{Node, nodeOf, isAtom}
-use Rattle.scope.specs.Refusals.{firstRefusal, Progress, stopped, going, ended, orStopped, onward}
+use Rattle.scope.specs.Refusals.{Progress, stopped, going, ended, orStopped, onward}
 use Rattle.scope.specs.Wire as wire
 use Rattle.scope.specs.Writing.{nodeBytes, Walk, nodeWritten, dueWritten, partWritten}
 use Rattle.wire.specs.declared.shape.Shape.{Shape}
 use Rattle.wire.specs.declared.reading.NodeAnswer.{NodeAnswer}
-use Rattle.wire.specs.Writes.{codeNode, atomsTo, bytesTo, codeCheckList, codeAnswer, FormulaIs, walkAt}
-use Rattle.wire.specs.Formula.{Sound, Open, Grown, Unread, dueOf, shapeOf, depthOf, laterOf}
+use Rattle.wire.specs.Writes.{codeNode, atomsTo, bytesTo, codeAnswer, FormulaIs, walkAt}
+use Rattle.wire.specs.Formula.{Sound, Grown, Unread, shapeOf, depthOf, laterOf}
 use Rattle.wire.proofs.Turns.{due-first, due-none, onward-first, onward-stopped, onward-ended, grown-nodes}
 use Rattle.wire.proofs.Checking.{CodeTaken, code-taken, code-refused}
 use Rattle.wire.proofs.Lengths.{body-small, node-length, bytes-head, bytes-next, atoms-next}
@@ -91,9 +90,9 @@ module _ (q : Question) (s : Shape) (len : ℕ) (w : Walking q s len) where
   first : whole ≡ onward (64 - s .nodes) (partWritten q) (partWritten q (walkOf q s))
   first = sym (w .rest) ∙ onward-first (partWritten q) (s .nodes) (walkOf q s) (w .sound .bounded)
 
-  pub walking-end : 66 ≤ s .top → FormulaIs q (s .nodes) (s .atoms) len × (whole ≡ ended (walkAt q (s .nodes) (s .atoms)))
-  walking-end t = (
-    record { few-nodes = w .sound .bounded; few-atoms = w .few; atomsIs = w .atomsIs; lenIs = w .lenIs; short = omega (arith, w .short, w .sound .bounded) },
+  pub walking-end : q .n ≤ 6 → 66 ≤ s .top → FormulaIs q (s .nodes) (s .atoms) len × (whole ≡ ended (walkAt q (s .nodes) (s .atoms)))
+  walking-end variables t = (
+    record { variables = variables; few-nodes = w .sound .bounded; few-atoms = w .few; atomsIs = w .atomsIs; lenIs = w .lenIs; short = omega (arith, w .short, w .sound .bounded) },
     first
         ∙ ap (onward (64 - s .nodes) (partWritten q)) (turn-end q s (w .sound) t)
         ∙ onward-ended (partWritten q) (64 - s .nodes) (walkOf q s)

@@ -1,20 +1,19 @@
 -- What writing needs besides document 01's definitions: a question's bytes node by node, and what its checks answer.
-use Prim.Native.Nat.{ℕ, zero, suc, _+_, _-_, _≤_}
+use Prim.Native.Nat.{ℕ, zero, suc, _+_, _-_, _≤_, _<_}
 use mathlib.Core.Path.{_≡_}
-use mathlib.Core.Bool.{Bool, true, false, not, cond, _||_}
-use mathlib.Core.Option.{Option, none, some}
+use mathlib.Core.Bool.{Bool, true, not, cond, _||_}
+use mathlib.Core.Option.{some}
 use mathlib.Core.List.{List, [], _∷_, _++_}
 use lib.ListN.{length, getD}
 use lib.IntN.{ℤ, pos}
 use lib.Dec.{leb, ltb}
 use Rattle.scope.specs.declared.Question.{Question}
-use Rattle.scope.specs.declared.Refusal.{Refusal}
 use Rattle.scope.specs.declared.WriteAnswer.{WriteAnswer}
-use Rattle.scope.specs.Whole.{eqZ, allFrom}
+use Rattle.scope.specs.Whole.{eqZ}
 use Rattle.scope.specs.Sizes.{mostNodes, mostAtoms, mostDepth, numbersFit}
 use Rattle.scope.specs.Question.{Node, nodeOf, isUnused, isAtom, coefficientsOf, constantOf}
 use Rattle.scope.specs.Refusals.{Check, check, refusal, firstRefusal, stopped, going, ended, onward}
-use Rattle.scope.specs.Wire.{Shape, unread, headKind, endKind}
+use Rattle.scope.specs.Wire.{bodyLength, unread, headKind, endKind}
 use Rattle.scope.specs.Writing.{recordBytes, nodeBytes, Walk, partWritten, codeChecks, coefficientUsed, written, wrote}
 use Rattle.wire.specs.declared.reading.NodeAnswer.{NodeAnswer}
 use Rattle.wire.specs.declared.writing.FormulaAnswer.{FormulaAnswer}
@@ -56,6 +55,7 @@ codeAnswer q nodes atoms depth = nodeOr (firstRefusal (codeCheckList q nodes ato
 -- ---- the formula, and what is left over
 
 pub record FormulaIs (q : Question) (nodes atoms len : ℕ) : Type 0 where
+  pub variables : q .n ≤ 6
   pub few-nodes : nodes ≤ 64
   pub few-atoms : atoms ≤ 8
   pub atomsIs : atoms ≡ atomsTo q nodes
@@ -88,3 +88,17 @@ coefficientClear n atoms c z = coefficientUsed n atoms c || eqZ z (pos 0)
 
 abbrev pub constantClear : ℕ → ℕ → ℤ → Bool
 constantClear atoms i z = ltb i atoms || eqZ z (pos 0)
+
+-- ---- room in a buffer
+
+pub record NodeRoom (q : Question) (code atom : ℕ) (buffer : List ℕ) (at : ℕ) : Type 0 where
+  pub variables : q .n ≤ 6
+  pub few : isAtom (nodeOf code) ≡ true → atom < 8
+  pub room : at + 4 + bodyLength (q .n) (nodeOf code) ≤ length buffer
+
+pub record QuestionRoom (q : Question) (nodes : ℕ) (buffer : List ℕ) : Type 0 where
+  pub variables : q .n ≤ 6
+  pub few-nodes : nodes ≤ 64
+  pub few-atoms : atomsTo q nodes ≤ 8
+  pub short : length (bytesTo q nodes) ≤ 2053
+  pub room : length (bytesTo q nodes) + 4 ≤ length buffer

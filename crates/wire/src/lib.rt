@@ -5,14 +5,17 @@ ghost use lib.ListN.{length};
 ghost use Rattle.scope.specs.Refusals.{stopped};
 ghost use Rattle.scope.specs.Wire.{recordAt, readFrom, readHeld};
 ghost use Rattle.wire.specs.Steps.{partOf};
+ghost use Rattle.wire.specs.Writes.{Writes};
 ghost use Rattle.wire.specs.Answers.{partRead, headed, formulaRead, endFrom};
 
 mod numbers;
+mod putting;
 mod reading;
 mod records;
 mod shape;
 mod writing;
 
+use putting::put_question;
 use reading::FrameAnswer;
 use reading::HeadAnswer;
 use reading::NodeAnswer;
@@ -28,8 +31,11 @@ use scope::Question;
 use scope::ReadAnswer;
 use scope::RecordAnswer;
 use scope::Refusal;
+use scope::WriteAnswer;
 use shape::grown;
 use shape::unread;
+use writing::FormulaAnswer;
+use writing::checked;
 
 pub fn record_at(bytes: &[u8], at: usize) -> RecordAnswer
     ensures { λ r. ⌜ r ≡ recordAt (now (bytes .entry)) at ⌝ }
@@ -172,4 +178,28 @@ pub fn read(bytes: &[u8]) -> Held
         }
     }
     Held { answer, question }
+}
+
+// Every check comes before the first byte, so a refused call leaves the buffer as it was.
+pub fn write(question: Question, bytes: &mut [u8]) -> WriteAnswer
+    ensures { λ r. ⌜ Writes question (now (bytes .entry)) r (now (bytes .exit)) ⌝ }
+{
+    match checked(question) {
+        FormulaAnswer::Refused(refusal) => WriteAnswer::Refused(refusal),
+        FormulaAnswer::Formula {
+            nodes,
+            atoms: _,
+            len,
+        } => {
+            let all = len + 4;
+            if bytes.len() < all {
+                return WriteAnswer::Refused(Refusal {
+                    number: 8,
+                    place: 0,
+                });
+            }
+            put_question(question, nodes, bytes);
+            WriteAnswer::Written(all)
+        }
+    }
 }

@@ -1,5 +1,4 @@
 -- `wire::writing::cell_clear` meets its contract.
-use borrow.Author.Needs.{needs}
 use mathlib.Core.Logic.{⊎-elim}
 use borrow.Author.Tests.{lt-ltb, le-ltb}
 use Rattle.wire.proofs.Sweeps.{zero-test}

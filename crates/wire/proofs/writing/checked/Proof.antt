@@ -1,10 +1,9 @@
 -- `wire::writing::checked` meets its contract: n, the formula, and then what is left over.
-use native.Mathlib.Omega.{arith}
-use mathlib.Core.Path.{_≡_, sym, ap, _∙_}
-use mathlib.Core.Bool.{Bool, true, false}
+use mathlib.Core.Path.{_≡_, sym, _∙_}
+use mathlib.Core.Bool.{true}
 use borrow.Author.Tests.{not-true, not-false}
 use Rattle.scope.specs.Sizes.{variablesFit}
-use Rattle.wire.specs.Writes.{FormulaSays, CheckedSays}
+use Rattle.wire.specs.Writes.{FormulaSays}
 use Rattle.wire.specs.declared.writing.FormulaAnswer.{FormulaAnswer}
 use Rattle.wire.proofs.Wholes.{few-variables}
 use Rattle.wire.proofs.Checking.{n-beyond, formula-refused, code-over, number-over, nothing-over}

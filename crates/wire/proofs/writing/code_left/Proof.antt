@@ -1,6 +1,5 @@
 -- `wire::writing::code_left` meets its contract: every code before i is zero.
 use borrow.Author.Needs.{needs}
-use native.Mathlib.Omega.{arith}
 use mathlib.Core.Path.{refl}
 use Prim.Native.Nat.{_-_}
 use Rattle.wire.proofs.Sweeps.{LeftFrom, left-again, left-found, left-none}

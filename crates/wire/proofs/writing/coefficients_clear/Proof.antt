@@ -1,16 +1,15 @@
 -- `wire::writing::coefficients_clear` meets its contract: what is left says whether all is clear.
 use borrow.Author.Needs.{needs}
 use native.Mathlib.Omega.{arith}
-use mathlib.Core.Path.{_≡_, sym, _∙_, ap}
+use mathlib.Core.Path.{_≡_, sym, _∙_}
 use mathlib.Core.Bool.{Bool, true, false}
 use Prim.Native.Nat.{_-_}
 use lib.IntN.{pos}
 use lib.ListN.{length, getD}
 use mir.Syntax.{w32}
-use mir.Val.{toZ, ofZ}
 use mir.ValLaws.{toZ-ofZ}
 use borrow.Author.Tests.{not-true, not-false}
-use Rattle.wire.specs.Writes.{coefficientClear, constantClear}
+use Rattle.wire.specs.Writes.{coefficientClear}
 use Rattle.wire.proofs.Sweeps.{SweptFrom, swept-start, swept-again, swept-not, swept-whole}
 use Rattle.wire.proofs.writing.coefficients_clear.Statement.{statement}
 use Rattle.wire.proofs.writing.coefficients_clear.Tie as tie

@@ -1,5 +1,4 @@
 -- `wire::writing::constant_clear` meets its contract.
-use borrow.Author.Needs.{needs}
 use borrow.Author.Tests.{lt-ltb, le-ltb}
 use Rattle.wire.proofs.Sweeps.{zero-test}
 use Rattle.wire.proofs.writing.constant_clear.Statement.{statement}

@@ -2,11 +2,10 @@
 use borrow.Author.Needs.{needs}
 use native.Mathlib.Omega.{arith}
 use mathlib.Core.Path.{_≡_, sym, ap, _∙_}
-use Prim.Native.Nat.{ℕ, _-_}
+use Prim.Native.Nat.{_-_}
 use lib.ListN.{length}
 use Rattle.wire.specs.Writes.{codeNode, codeAnswer}
 use Rattle.wire.specs.Formula.{depthOf}
-use Rattle.wire.specs.declared.reading.NodeAnswer.{NodeAnswer}
 use Rattle.wire.proofs.Lengths.{body-small}
 use Rattle.wire.proofs.Turns.{grown-nodes}
 use Rattle.wire.proofs.Checking.{CodeTaken, code-taken}
@@ -61,7 +60,7 @@ loop-again c =
 
 returns-2 : tie.Need-returns-2 Inv-loop μ-loop
 returns-2 c =
-    walking-end (c .before .before .before .args .question) (c .before .loop .shape) (c .before .loop .len) (c .before .loop .inv) (c .loop-test .left)
+    walking-end (c .before .before .before .args .question) (c .before .loop .shape) (c .before .loop .len) (c .before .loop .inv) (c .before .before .before .pre) (c .loop-test .left)
 
 pub formula-of-spec : {M : Type 1} → statement M
 formula-of-spec =

@@ -1,5 +1,4 @@
 -- `wire::writing::is_node` meets its contract.
-use borrow.Author.Needs.{needs}
 use Rattle.wire.proofs.Codes.{node-test}
 use Rattle.wire.proofs.writing.is_node.Statement.{statement}
 use Rattle.wire.proofs.writing.is_node.Tie as tie

@@ -1,0 +1,99 @@
+-- `wire::putting::put_question` meets its contract: what is still to be put leads to the whole.
+use borrow.Author.Needs.{needs}
+use native.Mathlib.Omega.{arith}
+use mathlib.Core.Path.{_≡_, sym, ap, _∙_}
+use Prim.Native.Nat.{ℕ, _-_, _≤_, _<_, _+_}
+use lib.ListN.{length}
+use lib.Seq.{sets}
+use denote.Ref.{now}
+use mathlib.Core.Bool.{true}
+use Rattle.scope.specs.Question.{isAtom}
+use Rattle.scope.specs.Wire.{bodyLength}
+use Rattle.scope.specs.Writing.{nodeBytes}
+use Rattle.wire.specs.Writes.{codeNode, atomsTo, bytesTo}
+use Rattle.wire.proofs.Lengths.{node-length, bytes-first}
+use Rattle.wire.proofs.Placing.{NodesLeft, nodes-start, nodes-again, nodes-whole, length-below, atoms-below, atoms-most, bytes-least}
+use Rattle.wire.proofs.putting.put_question.Statement.{statement}
+use Rattle.wire.proofs.putting.put_question.Tie as tie
+
+abbrev Inv-loop : tie.InvT-loop
+Inv-loop question nodes bytes₀ n count codes at₀ atoms₀ i₀ bytes at atoms i = NodesLeft question nodes bytes₀ bytes at atoms i
+
+abbrev μ-loop : tie.MeasureT-loop
+μ-loop question nodes bytes₀ n count codes at₀ atoms₀ i₀ bytes at atoms i = nodes - i
+
+full : (c : tie.Start Inv-loop μ-loop) → length (c .args .question .coefficients) ≡ 48
+full c = search needs
+
+few : (c : tie.In-loop Inv-loop μ-loop) → isAtom (codeNode (c .before .before .before .before .before .before .before .before .before .args .question) (c .before .loop .i)) ≡ true → atomsTo (c .before .before .before .before .before .before .before .before .before .args .question) (c .before .loop .i) < 8
+few c a = atoms-below (c .before .before .before .before .before .before .before .before .before .args .question) (c .before .loop .i) (c .before .before .before .before .before .before .before .before .before .args .nodes) (c .loop-test .taken) a (c .before .before .before .before .before .before .before .before .before .pre .few-atoms)
+
+long : (c : tie.In-loop Inv-loop μ-loop)
+    → length (nodeBytes (c .before .before .before .before .before .before .before .before .before .args .question) (codeNode (c .before .before .before .before .before .before .before .before .before .args .question) (c .before .loop .i)) (atomsTo (c .before .before .before .before .before .before .before .before .before .args .question) (c .before .loop .i))) ≡ 4 + bodyLength (c .before .before .before .before .before .before .before .before .before .args .question .n) (codeNode (c .before .before .before .before .before .before .before .before .before .args .question) (c .before .loop .i))
+long c = node-length (c .before .before .before .before .before .before .before .before .before .args .question) (full (c .before .before .before .before .before .before .before .before .before)) (c .before .before .before .before .before .before .before .before .before .pre .variables) (codeNode (c .before .before .before .before .before .before .before .before .before .args .question) (c .before .loop .i)) _ (few c)
+
+below : (c : tie.In-loop Inv-loop μ-loop) → c .before .loop .at + 4 + bodyLength (c .before .before .before .before .before .before .before .before .before .args .question .n) (codeNode (c .before .before .before .before .before .before .before .before .before .args .question) (c .before .loop .i)) ≤ length (bytesTo (c .before .before .before .before .before .before .before .before .before .args .question) (c .before .before .before .before .before .before .before .before .before .args .nodes))
+below c = omega (arith, c .before .loop .inv .atIs, long c, length-below (c .before .before .before .before .before .before .before .before .before .args .question) (c .before .loop .i) (c .before .before .before .before .before .before .before .before .before .args .nodes) (c .loop-test .taken))
+
+same : (c : tie.At-loop Inv-loop μ-loop) → length (c .loop .bytes) ≡ length (now (c .before .before .before .before .before .before .before .before .args .bytes))
+same c = c .loop .inv .same ∙ c .before .before .before .put-head .kept .0
+
+size : (c : tie.After-body-length Inv-loop μ-loop)
+    → c .body-length .result ≡ bodyLength (c .before .before .before .before .before .before .before .before .before .before .before .before .before .before .args .question .n) (codeNode (c .before .before .before .before .before .before .before .before .before .before .before .before .before .before .args .question) (c .before .before .before .before .before .before .loop .i))
+size c = c .body-length .ensures ∙ ap (λ (n : ℕ). bodyLength n (codeNode (c .before .before .before .before .before .before .before .before .before .before .before .before .before .before .args .question) (c .before .before .before .before .before .before .loop .i))) (c .before .before .before .before .before .before .before .before .before .before .before .before .count-of .ensures .0)
+
+put-head-requires : tie.Need-put-head-requires Inv-loop μ-loop
+put-head-requires c κs =
+    omega (arith, c .before .before .before .before .pre .room, bytes-least (c .before .before .before .before .args .question) (c .before .before .before .before .args .nodes))
+
+loop-holds : tie.Need-loop-holds Inv-loop μ-loop
+loop-holds c =
+    nodes-start (c .before .before .before .before .before .before .before .args .question) (c .before .before .before .before .before .before .before .args .nodes) (c .before .before .put-head .last .0)
+
+put-node-requires : tie.Need-put-node-requires Inv-loop μ-loop
+put-node-requires c κs =
+    record {
+      variables = c .before .before .before .before .before .before .before .before .before .before .pre .variables;
+      few = λ a. rw (c .before .before .loop .inv .atomsIs) (few (c .before) a);
+      room = omega (arith, below (c .before), c .before .before .before .before .before .before .before .before .before .before .pre .room, same (c .before .before));
+    }
+
+add-at : tie.Need-add-at Inv-loop μ-loop
+add-at c =
+    omega (arith, below (c .before .before .before .before), c .before .before .before .before .before .before .before .before .before .before .before .before .before .pre .short)
+
+add-at-2 : tie.Need-add-at-2 Inv-loop μ-loop
+add-at-2 c =
+    omega (arith, below (c .before .before .before .before .before), c .before .before .before .before .before .before .before .before .before .before .before .before .before .before .pre .short, size c)
+
+counted-requires : tie.Need-counted-requires Inv-loop μ-loop
+counted-requires c κs =
+    omega (arith, c .before .before .before .before .before .before .loop .inv .atomsIs, c .before .before .before .before .before .before .before .before .before .before .before .before .before .before .pre .few-atoms, atoms-most (c .before .before .before .before .before .before .before .before .before .before .before .before .before .before .args .question) (c .before .before .before .before .before .before .loop .i) (c .before .before .before .before .before .before .before .before .before .before .before .before .before .before .args .nodes) (c .before .before .before .before .before .before .loop .inv .within))
+
+loop-again : tie.Need-loop-again Inv-loop μ-loop
+loop-again c =
+    let l = c .before .before .before .before .before .before .before .loop in
+    let q = c .before .before .before .before .before .before .before .before .before .before .before .before .before .before .before .args .question in
+    nodes-again q (c .before .before .before .before .before .before .before .before .before .before .before .before .before .before .before .args .nodes) (c .before .before .before .before .before .before .before .before .before .before .put-head .last .0) (l .bytes) (l .at) (l .atoms) (l .i) (l .inv) (c .before .before .before .before .before .before .loop-test .taken)
+    (c .before .before .before .before .put-node .last .1 .1 .1 .0) (c .before .body-length .result) (c .counted .result) (c .before .before .before .before .put-node .kept .1 .1 .1 .0) (c .before .before .before .before .put-node .ensures)
+    (ap (λ (k : ℕ). length (nodeBytes q (codeNode q (l .i)) k)) (l .inv .atomsIs) ∙ long (c .before .before .before .before .before .before) ∙ ap (λ (k : ℕ). 4 + k) (sym (size (c .before)))) (c .counted .ensures)
+
+put-header-requires : tie.Need-put-header-requires Inv-loop μ-loop
+put-header-requires c κs =
+    let l = c .before .before .loop in
+    let e : l .i ≡ c .before .before .before .before .before .before .before .before .before .before .args .nodes = omega (arith, l .inv .within, c .before .loop-test .left) in
+    omega (arith, c .before .before .before .before .before .before .before .before .before .before .pre .room, same (c .before .before), l .inv .atIs, ap (λ (i : ℕ). length (bytesTo (c .before .before .before .before .before .before .before .before .before .before .args .question) i)) e)
+
+returns : tie.Need-returns Inv-loop μ-loop
+returns c =
+    let l = c .before .before .before .before .before .loop in
+    let a = c .before .before .before .before .before .before .before .before .before .before .before .before .before .args in
+    nodes-whole (a .question) (a .nodes) (c .before .before .before .before .before .before .before .before .put-head .last .0) (l .bytes) (l .at) (l .atoms) (l .i) (l .inv) (c .before .before .before .before .loop-test .left)
+    (now (a .bytes)) (c .before .before .put-header .last .0) (c .before .before .before .before .before .before .before .before .put-head .ensures ∙ ap (sets (now (a .bytes)) 0) (sym (bytes-first (a .question)))) (c .before .before .put-header .ensures)
+
+pub put-question-spec : {M : Type 1} → statement M
+put-question-spec =
+    tie.close
+    (tie.spec Inv-loop μ-loop (λ c κs. search needs) put-head-requires loop-holds (λ c. search needs)
+    put-node-requires add-at (λ c κs. search needs) add-at-2 counted-requires (λ c. search needs) (λ c. search needs)
+    loop-again put-header-requires (λ c. search needs) returns)
