@@ -1,0 +1,146 @@
+-- The second pass of building: every row stands in the key area. Its cells are the machine's state, and the row that has a target's cells is
+-- the target's number.
+use mathlib.Core.Path.{_≡_, refl, sym, ap, _∙_}
+use mathlib.Core.Logic.{by-cases}
+use mathlib.Core.Bool.{Bool, false, cond}
+use mathlib.Core.List.{List, [], _∷_, _++_, map}
+use Prim.Native.Nat.{ℕ, zero, suc, _+_, _*_, _≤_, _<_}
+use native.Mathlib.Nat.{zero-add}
+use native.Mathlib.Decide.{decLt}
+use native.Mathlib.Omega.{arith}
+use lib.ListN.{length, getD, take, drop}
+use lib.Seq.{ext-getD}
+use lib.IntN.{ℤ, pos}
+use Rattle.scope.specs.Question.{nodeOf}
+use Rattle.scope.specs.States.{formulaWorth}
+use Rattle.scope.specs.Numbering.{Machine, Row, Rows, startRow, row, numbered, numberOf}
+use Rattle.scope.specs.Building.{nextStates, tableRow}
+use Rattle.theory.specs.Numbers.{HasNumber, number-is, number-step}
+use Rattle.theory.specs.Table.{numbered-rooted}
+use Rattle.theory.specs.Simulation.{AllGood, good-[], good-∷}
+use Rattle.index.specs.Rows.{rowAt, row-cell, row-end}
+use Rattle.index.specs.Index.{Finds}
+use Rattle.step.specs.Eight.{listed, padded, length-listed, getD-listed, take-padded}
+use Rattle.step.specs.Cells.{kindOf, stepCell, worthCell, stepAt, worthAt, stepCells, worthCells, Stepping}
+use Rattle.explore.specs.Machine.{cellMachine, cell-letters, cell-step, cell-accepts, cell-lawful, KeyRow}
+use Rattle.explore.specs.Areas.{rowCells, pathRows, Held, held-row}
+use Rattle.explore.specs.Standing.{Task}
+
+-- the machine of what the code is handed, whose start is row 0
+abbrev pub machineIn : List ℕ → List ℕ → ℕ → List ℤ → ℕ → List ℤ → Machine (List ℤ)
+machineIn codes kinds m sums letters keys = cellMachine codes kinds m sums letters (take m keys)
+
+-- the count rows at the front of the keys are all that the machine numbers
+pub record AllThere (M : Machine (List ℤ)) (m count : ℕ) (keys : List ℤ) : Type 0 where
+  pub size : length (numbered M count) ≡ count
+  pub room : count * m ≤ length keys
+  pub cells : take (count * m) keys ≡ rowCells (numbered M count)
+  pub good : AllGood (KeyRow m) (numbered M count)
+
+pub record Tabling (codes kinds : List ℕ) (m : ℕ) (sums : List ℤ) (letters : ℕ) (keys : List ℤ) (count : ℕ) : Type 0 where
+  pub task : Task codes m sums letters
+  pub there : AllThere (machineIn codes kinds m sums letters keys) m count keys
+
+-- ---- a key row is a state
+
+good-at : (M : Machine (List ℤ)) (m : ℕ) {l : Rows (List ℤ)} → AllGood (KeyRow m) l → (t : ℕ) → t < length l → KeyRow m (row M l t .state)
+good-at M m good-[] t h = absurd (omega arith)
+good-at M m (good-∷ k ks) zero h = k
+good-at M m (good-∷ k ks) (suc t) h = good-at M m ks t (omega arith)
+
+module _ {M : Machine (List ℤ)} {m count : ℕ} {keys : List ℤ} (a : AllThere M m count keys) where
+  held : Held m false (numbered M count) count keys []
+  unfolding pathRows
+  held = record { count-is = a .size; keys-hold = a .cells; path-holds = refl }
+
+  pub state-is : (t : ℕ) → t < count → rowAt keys m t ≡ row M (numbered M count) t .state
+  state-is t h = held-row M m held (a .good) t h
+
+  pub state-fits : (t : ℕ) → t < count → KeyRow m (row M (numbered M count) t .state)
+  state-fits t h = good-at M m (a .good) t (omega (arith, a .size))
+
+-- a row's target and worths, from the row's own cells
+step-row-cells : (kinds : List ℕ) (m : ℕ) (sums : List ℤ) (letter : ℕ) (keys : List ℤ) (s : ℕ)
+    → stepCells kinds m sums letter keys (s * m) ≡ stepCells kinds m sums letter (rowAt keys m s) 0
+unfolding stepCells
+step-row-cells kinds m sums letter keys s =
+    ext-getD (pos 0) (listed (stepAt kinds sums letter keys (s * m)) m) (listed (stepAt kinds sums letter (rowAt keys m s) 0) m)
+    (length-listed (stepAt kinds sums letter keys (s * m)) m ∙ sym (length-listed (stepAt kinds sums letter (rowAt keys m s) 0) m))
+    (λ i h.
+    let p : i < m = omega (arith, length-listed (stepAt kinds sums letter keys (s * m)) m) in
+    rw (
+      getD-listed (stepAt kinds sums letter keys (s * m)) m i (pos 0) p,
+      getD-listed (stepAt kinds sums letter (rowAt keys m s) 0) m i (pos 0) p,
+      zero-add,
+      row-cell keys m s i (pos 0) p,
+    ))
+
+worth-row-cells : (kinds : List ℕ) (m : ℕ) (keys : List ℤ) (s : ℕ) → worthCells kinds m keys (s * m) ≡ worthCells kinds m (rowAt keys m s) 0
+unfolding worthCells
+worth-row-cells kinds m keys s =
+    ext-getD false (listed (worthAt kinds keys (s * m)) m) (listed (worthAt kinds (rowAt keys m s) 0) m)
+    (length-listed (worthAt kinds keys (s * m)) m ∙ sym (length-listed (worthAt kinds (rowAt keys m s) 0) m))
+    (λ i h.
+    let p : i < m = omega (arith, length-listed (worthAt kinds keys (s * m)) m) in
+    rw (
+      getD-listed (worthAt kinds keys (s * m)) m i false p,
+      getD-listed (worthAt kinds (rowAt keys m s) 0) m i false p,
+      zero-add,
+      row-cell keys m s i (pos 0) p,
+    ))
+
+module _ {codes kinds : List ℕ} {m : ℕ} {sums : List ℤ} {letters : ℕ} {keys : List ℤ} {count : ℕ} (t : Tabling codes kinds m sums letters keys count)
+    (s : ℕ) (below : s < count) where
+  M : Machine (List ℤ)
+  M = machineIn codes kinds m sums letters keys
+
+  pub row-room : s * m + m ≤ length keys
+  row-room = omega (arith, row-end s count m below, t .there .room)
+
+  pub steppable : (letter : ℕ) → letter < letters → Stepping m sums letter keys (s * m)
+  steppable letter h = record {
+    atoms = t .task .atoms;
+    letters = omega (arith, t .task .few-letters);
+    room = row-room;
+    cells = λ i p. rw (← row-cell keys m s i (pos 0) p, state-is (t .there) s below) (state-fits (t .there) s below .fits i p);
+    sums-fit = λ i p. t .task .sums-fit letter i h p;
+  }
+
+  -- the mark of the row
+  pub mark-is : formulaWorth (map nodeOf codes) (worthCells kinds m keys (s * m))
+      ≡ machineIn codes kinds m sums letters keys .accepts (row (machineIn codes kinds m sums letters keys) (numbered (machineIn codes kinds m sums letters keys) count) s .state)
+  unfolding M
+  mark-is =
+      ap (formulaWorth (map nodeOf codes)) (worth-row-cells kinds m keys s ∙ ap (λ (k : List ℤ). worthCells kinds m k 0) (state-is (t .there) s below))
+      ∙ sym (cell-accepts codes kinds m sums letters (take m keys) _)
+
+  -- the target's cells
+  target-is : (letter : ℕ) → take m (padded (pos 0) (stepCells kinds m sums letter keys (s * m)))
+      ≡ machineIn codes kinds m sums letters keys .step (row (machineIn codes kinds m sums letters keys) (numbered (machineIn codes kinds m sums letters keys) count) s .state) letter
+  unfolding stepCells
+  target-is letter =
+      take-padded (pos 0) (stepCells kinds m sums letter keys (s * m)) m (length-listed _ m)
+      ∙ step-row-cells kinds m sums letter keys s
+      ∙ ap (λ (k : List ℤ). stepCells kinds m sums letter k 0) (state-is (t .there) s below)
+      ∙ sym (cell-step codes kinds m sums letters (take m keys) _ letter)
+
+  -- the row that has them is the target's number
+  pub found-is : (letter r : ℕ) → letter < letters → Finds keys m (padded (pos 0) (stepCells kinds m sums letter keys (s * m))) count r
+      → r ≡ numberOf (machineIn codes kinds m sums letters keys) (numbered (machineIn codes kinds m sums letters keys) count)
+      (machineIn codes kinds m sums letters keys .step (row (machineIn codes kinds m sums letters keys) (numbered (machineIn codes kinds m sums letters keys) count) s .state) letter)
+  unfolding M
+  found-is letter r h f =
+      let ok = cell-lawful codes kinds m sums letters (take m keys) in
+      let l = numbered M count in
+      let size = t .there .size in
+      let p : s < length l = omega (arith, size) in
+      let a : letter < M .letters = rw (cell-letters codes kinds m sums letters (take m keys)) h in
+      let n : HasNumber M l (M .step (row M l s .state) letter) = number-step M ok count s letter below p a in
+      let u = numberOf M l (M .step (row M l s .state) letter) in
+      let v : u < count = omega (arith, n .inside, size) in
+      by-cases (decLt r count)
+      (λ q.
+      let e : row M l r .state ≡ M .step (row M l s .state) letter = sym (state-is (t .there) r q) ∙ f .row q ∙ target-is letter in
+      let w : r < length l = omega (arith, size) in
+      sym (number-is M ok (numbered-rooted M ok count) r w) ∙ ap (numberOf M l) e)
+      (λ q. absurd (f .none (omega (arith, f .low)) u v (state-is (t .there) u v ∙ n .is ∙ sym (target-is letter))))

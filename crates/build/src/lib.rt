@@ -1,0 +1,226 @@
+// Building a question's table: its states are numbered first, then every row of the table is written from the key rows.
+use explore::accepts;
+use index::find;
+use index::rebuild;
+use step::step_row;
+ghost use mathlib.Core.Path.{_≡_};
+ghost use mathlib.Core.Bool.{cond};
+ghost use Prim.Native.Nat.{_+_, _*_, _≤_, _<_};
+ghost use lib.ListN.{length};
+ghost use lib.IntN.{pos};
+ghost use Rattle.step.specs.Eight.{padded};
+ghost use Rattle.step.specs.Cells.{stepCells, Stepping};
+ghost use Rattle.index.specs.Index.{Indexed, Finds};
+ghost use Rattle.build.specs.Tabling.{Tabling};
+ghost use Rattle.build.specs.Written.{rowOf, tableAfter};
+
+// The row that has the cells to which a letter leads from a row.
+fn next_state(
+    kinds: &[u8; 8],
+    m: usize,
+    sums: &[i32; 512],
+    letter: usize,
+    keys: &[i32],
+    head: &[u16],
+    next: &[u16],
+    count: usize,
+    row: usize,
+) -> u16
+    requires { ⌜ Indexed (now keys) m (now head) (now next) count ⌝ }
+    requires { ⌜ Stepping m (now sums) letter (now keys) (row * m) ⌝ }
+    ensures { λ r. ⌜ Finds (now (keys .entry)) m (padded (pos 0) (stepCells (now (kinds .entry)) m (now (sums .entry)) letter (now (keys .entry)) (row * m))) count r ⌝ }
+{
+    let key = step_row(kinds, m, sums, letter, keys, row * m);
+    find(keys, m, &key, head, next, count) as u16
+}
+
+// The first cell of a row.
+fn mark(accepting: bool) -> u16
+    ensures { λ r. ⌜ r ≡ cond accepting 1 0 ⌝ }
+{
+    if accepting { 1 } else { 0 }
+}
+
+// Writes a row of the table: 1 if the key row accepts else 0, then the next state for each letter in order.
+fn write_row(
+    part: &mut [u16],
+    codes: &[u8; 64],
+    kinds: &[u8; 8],
+    m: usize,
+    sums: &[i32; 512],
+    letters: usize,
+    keys: &[i32],
+    head: &[u16],
+    next: &[u16],
+    count: usize,
+    row: usize,
+)
+    requires { ⌜ Tabling (now codes) (now kinds) m (now sums) letters (now keys) count ⌝ }
+    requires { ⌜ Indexed (now keys) m (now head) (now next) count ⌝ }
+    requires { ⌜ (row < count) × (length (now part) ≡ 1 + letters) ⌝ }
+    ensures { λ _. ⌜ now (part .exit) ≡ rowOf (now (codes .entry)) (now (kinds .entry)) m (now (sums .entry)) letters (now (keys .entry)) count row ⌝ }
+{
+    part[0] = mark(accepts(codes, kinds, m, keys, row * m));
+    let mut letter = 0;
+    while letter < letters {
+        part[1 + letter] = next_state(kinds, m, sums, letter, keys, head, next, count, row);
+        letter += 1;
+    }
+}
+
+// Writes every row of the table at its front, each in the part that is lent for it.
+fn write_rows(
+    table: &mut [u16],
+    codes: &[u8; 64],
+    kinds: &[u8; 8],
+    m: usize,
+    sums: &[i32; 512],
+    letters: usize,
+    keys: &[i32],
+    head: &[u16],
+    next: &[u16],
+    count: usize,
+)
+    requires { ⌜ Tabling (now codes) (now kinds) m (now sums) letters (now keys) count ⌝ }
+    requires { ⌜ Indexed (now keys) m (now head) (now next) count ⌝ }
+    requires { ⌜ count * (1 + letters) ≤ length (now table) ⌝ }
+    ensures { λ _. ⌜ now (table .exit) ≡ tableAfter (now (codes .entry)) (now (kinds .entry)) m (now (sums .entry)) letters (now (keys .entry)) count (now (table .entry)) ⌝ }
+{
+    let width = 1 + letters;
+    let mut row = 0;
+    while row < count {
+        let at = row * width;
+        let end = at + width;
+        write_row(
+            &mut table[at..end],
+            codes,
+            kinds,
+            m,
+            sums,
+            letters,
+            keys,
+            head,
+            next,
+            count,
+            row,
+        );
+        row += 1;
+    }
+}
+
+// Writes the table through an index that is made anew.
+fn write_indexed(
+    table: &mut [u16],
+    codes: &[u8; 64],
+    kinds: &[u8; 8],
+    m: usize,
+    sums: &[i32; 512],
+    letters: usize,
+    keys: &[i32],
+    head: &mut [u16],
+    next: &mut [u16],
+    count: usize,
+)
+    requires { ⌜ Tabling (now codes) (now kinds) m (now sums) letters (now keys) count ⌝ }
+    requires { ⌜ (count ≤ 65535) × (count * (1 + letters) ≤ length (now table)) ⌝ }
+    requires { ⌜ (0 < length (now head)) × (length (now head) ≤ 65536) × (count ≤ length (now next)) ⌝ }
+    ensures { λ _. ⌜ now (table .exit) ≡ tableAfter (now (codes .entry)) (now (kinds .entry)) m (now (sums .entry)) letters (now (keys .entry)) count (now (table .entry)) ⌝ }
+{
+    rebuild(keys, m, head, next, count);
+    write_rows(
+        table,
+        codes,
+        kinds,
+        m,
+        sums,
+        letters,
+        keys,
+        head,
+        next,
+        count,
+    );
+}
+
+// A small index: a small question does not pay for clearing a large one.
+fn write_few(
+    table: &mut [u16],
+    codes: &[u8; 64],
+    kinds: &[u8; 8],
+    m: usize,
+    sums: &[i32; 512],
+    letters: usize,
+    keys: &[i32],
+    count: usize,
+)
+    requires { ⌜ Tabling (now codes) (now kinds) m (now sums) letters (now keys) count ⌝ }
+    requires { ⌜ (count ≤ 256) × (count * (1 + letters) ≤ length (now table)) ⌝ }
+    ensures { λ _. ⌜ now (table .exit) ≡ tableAfter (now (codes .entry)) (now (kinds .entry)) m (now (sums .entry)) letters (now (keys .entry)) count (now (table .entry)) ⌝ }
+{
+    let mut head = [65535u16; 256];
+    let mut next = [65535u16; 256];
+    write_indexed(
+        table,
+        codes,
+        kinds,
+        m,
+        sums,
+        letters,
+        keys,
+        &mut head,
+        &mut next,
+        count,
+    );
+}
+
+// An index for all rows that there can be.
+fn write_many(
+    table: &mut [u16],
+    codes: &[u8; 64],
+    kinds: &[u8; 8],
+    m: usize,
+    sums: &[i32; 512],
+    letters: usize,
+    keys: &[i32],
+    count: usize,
+)
+    requires { ⌜ Tabling (now codes) (now kinds) m (now sums) letters (now keys) count ⌝ }
+    requires { ⌜ (count ≤ 65535) × (count * (1 + letters) ≤ length (now table)) ⌝ }
+    ensures { λ _. ⌜ now (table .exit) ≡ tableAfter (now (codes .entry)) (now (kinds .entry)) m (now (sums .entry)) letters (now (keys .entry)) count (now (table .entry)) ⌝ }
+{
+    let mut head = [65535u16; 65536];
+    let mut next = [65535u16; 65536];
+    write_indexed(
+        table,
+        codes,
+        kinds,
+        m,
+        sums,
+        letters,
+        keys,
+        &mut head,
+        &mut next,
+        count,
+    );
+}
+
+// Writes the table of the key rows, which are all there.
+fn write_table(
+    table: &mut [u16],
+    codes: &[u8; 64],
+    kinds: &[u8; 8],
+    m: usize,
+    sums: &[i32; 512],
+    letters: usize,
+    keys: &[i32],
+    count: usize,
+)
+    requires { ⌜ Tabling (now codes) (now kinds) m (now sums) letters (now keys) count ⌝ }
+    requires { ⌜ (count ≤ 65535) × (count * (1 + letters) ≤ length (now table)) ⌝ }
+    ensures { λ _. ⌜ now (table .exit) ≡ tableAfter (now (codes .entry)) (now (kinds .entry)) m (now (sums .entry)) letters (now (keys .entry)) count (now (table .entry)) ⌝ }
+{
+    if count <= 256 {
+        write_few(table, codes, kinds, m, sums, letters, keys, count);
+    } else {
+        write_many(table, codes, kinds, m, sums, letters, keys, count);
+    }
+}
