@@ -2,3 +2,4 @@
 pub mod Front
 pub mod Tabling
 pub mod Written
+pub mod Builds

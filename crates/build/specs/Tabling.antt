@@ -43,7 +43,7 @@ pub record Tabling (codes kinds : List ℕ) (m : ℕ) (sums : List ℤ) (letters
 
 -- ---- a key row is a state
 
-good-at : (M : Machine (List ℤ)) (m : ℕ) {l : Rows (List ℤ)} → AllGood (KeyRow m) l → (t : ℕ) → t < length l → KeyRow m (row M l t .state)
+pub good-at : (M : Machine (List ℤ)) (m : ℕ) {l : Rows (List ℤ)} → AllGood (KeyRow m) l → (t : ℕ) → t < length l → KeyRow m (row M l t .state)
 good-at M m good-[] t h = absurd (omega arith)
 good-at M m (good-∷ k ks) zero h = k
 good-at M m (good-∷ k ks) (suc t) h = good-at M m ks t (omega arith)
