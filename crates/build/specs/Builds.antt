@@ -1,7 +1,7 @@
 -- What building leaves: the answer and each lent area afterwards. Of a machine of key rows, numbered in so many rows; and how that follows
 -- from the way in which numbering ended.
 use mathlib.Core.Path.{_≡_, refl, sym, ap, _∙_}
-use mathlib.Core.Bool.{Bool, true, false}
+use mathlib.Core.Bool.{Bool, true, false, true≢false}
 use mathlib.Core.Option.{none}
 use mathlib.Core.List.{List, [], _∷_, _++_, map, append-assoc}
 use Prim.Native.Nat.{ℕ, zero, suc, _+_, _*_, _≤_, _<_}
@@ -90,7 +90,7 @@ module _ (kinds : List ℕ) {codes : List ℕ} {m : ℕ} {sums : List ℤ} {lett
   M : Machine (List ℤ)
   M = machineIn codes kinds m sums letters keys₀
 
-  pub few-states : states ≤ rows
+  few-states : states ≤ rows
   unfolding M
   few-states = omega (arith, all .states-are, leb→le (length (numbered M rows)) rows (rw (all .fit) tt))
 
@@ -137,6 +137,12 @@ module _ (kinds : List ℕ) {codes : List ℕ} {m : ℕ} {sums : List ℤ} {lett
       let some : 0 < states = omega (arith, rooted .not-empty, there .size) in
       rw zero-mul at (state-is there 0 some) ∙ ap (λ (r : Row (List ℤ)). r .state) (rooted .start-row) ∙ cell-start codes kinds m sums letters (take m keys₀)
 
+  pub states-fit : states ≤ 65535
+  states-fit = omega (arith, few-states, ready .few-rows)
+
+  pub table-fits : (width size : ℕ) → rows * width ≤ size → states * width ≤ size
+  table-fits width size h = omega (arith, mul-le-mul-right width few-states)
+
   pub tabling : Tabling codes kinds m sums letters keys states
   unfolding M
   tabling = record { task = task; there = rw same-start there }
@@ -149,3 +155,15 @@ module _ (kinds : List ℕ) {codes : List ℕ} {m : ℕ} {sums : List ℤ} {lett
     keys = all .keys-are;
     table = e ∙ rw (same-start, same-rows);
   })
+
+-- building has no path area
+pub any-path : {M : Machine (List ℤ)} {m rows : ℕ} {keys : List ℤ} {path : List ℕ} (other : List ℕ) → Ready M m rows false keys path → Ready M m rows false keys other
+any-path other r = record {
+  some-rows = r .some-rows;
+  few-rows = r .few-rows;
+  keys-room = r .keys-room;
+  path-room = omega arith;
+  start-fits = r .start-fits;
+  path-start = λ e. absurd (true≢false (sym e));
+  refused = r .refused;
+}

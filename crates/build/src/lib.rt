@@ -1,18 +1,25 @@
 // Building a question's table: its states are numbered first, then every row of the table is written from the key rows.
+use explore::Explored;
 use explore::accepts;
+use explore::number_rows;
 use index::find;
 use index::rebuild;
+use scope::BuildAnswer;
 use step::step_row;
 ghost use mathlib.Core.Path.{_≡_};
-ghost use mathlib.Core.Bool.{cond};
+ghost use mathlib.Core.Bool.{cond, false};
+ghost use mathlib.Core.List.{[]};
 ghost use Prim.Native.Nat.{_+_, _*_, _≤_, _<_};
 ghost use lib.ListN.{length};
 ghost use lib.IntN.{pos};
 ghost use Rattle.step.specs.Eight.{padded};
 ghost use Rattle.step.specs.Cells.{stepCells, Stepping};
 ghost use Rattle.index.specs.Index.{Indexed, Finds};
-ghost use Rattle.build.specs.Tabling.{Tabling};
+ghost use Rattle.explore.specs.Standing.{Task};
+ghost use Rattle.explore.specs.Outcome.{Ready};
+ghost use Rattle.build.specs.Tabling.{machineIn, Tabling};
 ghost use Rattle.build.specs.Written.{rowOf, tableAfter};
+ghost use Rattle.build.specs.Builds.{Builds, filled};
 
 // The row that has the cells to which a letter leads from a row.
 fn next_state(
@@ -222,5 +229,34 @@ fn write_table(
         write_few(table, codes, kinds, m, sums, letters, keys, count);
     } else {
         write_many(table, codes, kinds, m, sums, letters, keys, count);
+    }
+}
+
+// Numbers the states from the start's, which is row 0 already, and writes the table if each of them has a row.
+fn fill(
+    codes: &[u8; 64],
+    kinds: &[u8; 8],
+    m: usize,
+    sums: &[i32; 512],
+    letters: usize,
+    keys: &mut [i32],
+    table: &mut [u16],
+    rows: usize,
+) -> BuildAnswer
+    requires { ⌜ Task (now codes) m (now sums) letters ⌝ }
+    requires { ⌜ Ready (machineIn (now codes) (now kinds) m (now sums) letters (now keys)) m rows false (now keys) [] ⌝ }
+    requires { ⌜ rows * (1 + letters) ≤ length (now table) ⌝ }
+    ensures { λ r. ⌜ Builds (filled (machineIn (now (codes .entry)) (now (kinds .entry)) m (now (sums .entry)) letters (now (keys .entry))) rows (now (keys .entry)) (now (table .entry))) r (now (keys .exit)) (now (table .exit)) ⌝ }
+{
+    let mut path = [0u16; 1];
+    let explored = number_rows(codes, kinds, m, sums, letters, keys, &mut path, rows, false);
+    match explored {
+        Explored::All { states } => {
+            write_table(table, codes, kinds, m, sums, letters, keys, states);
+            BuildAnswer::Built { states }
+        }
+        Explored::NoRoom { states } => BuildAnswer::NoRoom { states },
+        // Only deciding finds a state.
+        Explored::Found { states } => BuildAnswer::NoRoom { states },
     }
 }

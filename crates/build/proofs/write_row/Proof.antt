@@ -8,10 +8,6 @@ use Rattle.build.specs.Tabling.{row-room, steppable}
 use Rattle.build.specs.Written.{Begun, mark-written, next-written, row-written}
 use Rattle.build.proofs.write_row.Statement.{statement}
 use Rattle.build.proofs.write_row.Tie as tie
-use Rattle.build.proofs.write_row.Reads as reads
-use Rattle.build.proofs.write_row.Lts as lts
-use Rattle.build.proofs.next_state.Reads as next-state-reads
-use Rattle.explore.proofs.accepts.Reads as accepts-reads
 
 abbrev Inv-loop : tie.InvT-loop
 Inv-loop part₀ codes kinds m sums letters keys head next count row letter₀ part letter = Begun codes kinds m sums letters keys count row letter part

@@ -10,9 +10,6 @@ use Rattle.index.specs.Rows.{row-end}
 use Rattle.build.specs.Written.{RowsWritten, no-row-written, row-more, all-rows-written}
 use Rattle.build.proofs.write_rows.Statement.{statement}
 use Rattle.build.proofs.write_rows.Tie as tie
-use Rattle.build.proofs.write_rows.Reads as reads
-use Rattle.build.proofs.write_rows.Lts as lts
-use Rattle.build.proofs.write_row.Reads as write-row-reads
 
 abbrev Inv-loop : tie.InvT-loop
 Inv-loop table₀ codes kinds m sums letters keys head next count width row₀ table row = RowsWritten codes kinds m sums letters keys count row table₀ table
