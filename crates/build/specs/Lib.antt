@@ -3,3 +3,4 @@ pub mod Front
 pub mod Tabling
 pub mod Written
 pub mod Builds
+pub mod Asked

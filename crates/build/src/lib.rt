@@ -4,14 +4,23 @@ use explore::accepts;
 use explore::number_rows;
 use index::find;
 use index::rebuild;
+use index::store_row;
 use scope::BuildAnswer;
+use scope::Question;
+use scope::ReadAnswer;
+use step::kinds_of;
+use step::letter_sums;
+use step::letters;
 use step::step_row;
 ghost use mathlib.Core.Path.{_≡_};
 ghost use mathlib.Core.Bool.{cond, false};
 ghost use mathlib.Core.List.{[]};
-ghost use Prim.Native.Nat.{_+_, _*_, _≤_, _<_};
+ghost use Prim.Native.Nat.{_+_, _*_, _/_, _≤_, _<_, min};
 ghost use lib.ListN.{length};
 ghost use lib.IntN.{pos};
+ghost use Rattle.scope.specs.Sizes.{mostStates};
+ghost use Rattle.scope.specs.Building.{builtQuestion, built};
+ghost use Rattle.theory.specs.Accepted.{WithinLimits};
 ghost use Rattle.step.specs.Eight.{padded};
 ghost use Rattle.step.specs.Cells.{stepCells, Stepping};
 ghost use Rattle.index.specs.Index.{Indexed, Finds};
@@ -259,4 +268,53 @@ fn fill(
         // Only deciding finds a state.
         Explored::Found { states } => BuildAnswer::NoRoom { states },
     }
+}
+
+fn least(a: usize, b: usize) -> usize
+    ensures { λ r. ⌜ r ≡ min a b ⌝ }
+{
+    if a < b { a } else { b }
+}
+
+// R: how many rows are lent.
+fn room(keys: usize, m: usize, table: usize, width: usize) -> usize
+    requires { ⌜ (0 < m) × (0 < width) ⌝ }
+    ensures { λ r. ⌜ r ≡ min (min (keys / m) (table / width)) mostStates ⌝ }
+{
+    least(least(keys / m, table / width), Question::STATES)
+}
+
+// Builds the table of a question that was accepted.
+fn build_question(question: Question, keys: &mut [i32], table: &mut [u16]) -> BuildAnswer
+    requires { ⌜ WithinLimits question ⌝ }
+    ensures { λ r. ⌜ Builds (builtQuestion question (now (keys .entry)) (now (table .entry))) r (now (keys .exit)) (now (table .exit)) ⌝ }
+{
+    let n = question.n as usize;
+    let codes = question.codes;
+    let coefficients = question.coefficients;
+    let constants = question.constants;
+    let atoms = kinds_of(&codes);
+    let kinds = atoms.kinds;
+    let m = atoms.m;
+    let count = letters(n);
+    let rows = room(keys.len(), m, table.len(), 1 + count);
+    if rows == 0 {
+        return BuildAnswer::NoRoom { states: 0 };
+    }
+    let sums = letter_sums(n, m, &coefficients);
+    store_row(keys, m, 0, &constants);
+    fill(&codes, &kinds, m, &sums, count, keys, table, rows)
+}
+
+// Builds the table of the question that the bytes say.
+pub fn build(bytes: &[u8], keys: &mut [i32], table: &mut [u16]) -> BuildAnswer
+    ensures { λ r. ⌜ Builds (built (now (bytes .entry)) (now (keys .entry)) (now (table .entry))) r (now (keys .exit)) (now (table .exit)) ⌝ }
+{
+    let held = wire::read(bytes);
+    let answer = held.answer;
+    if let ReadAnswer::Refused(refusal) = answer {
+        return BuildAnswer::Refused(refusal);
+    }
+    let question = held.question;
+    build_question(question, keys, table)
 }

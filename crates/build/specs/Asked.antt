@@ -1,0 +1,195 @@
+-- Building a question: its start is row 0, the machine of key rows does what the question's does, and so what is left is document 01's.
+use mathlib.Core.Path.{_≡_, refl, sym, ap, _∙_}
+use mathlib.Core.Bool.{Bool, true, false, true≢false}
+use mathlib.Core.List.{List, [], _∷_, _++_}
+use Prim.Native.Nat.{ℕ, _+_, _*_, _/_, _^_, _≤_, _<_, min}
+use native.Mathlib.Nat.{zero-mul, zero-add, mul-le-mul-right, div-mul-le-self}
+use native.Mathlib.Omega.{arith}
+use lib.ListN.{length, getD, take, drop, length-take}
+use lib.Seq.{take-length, length-take-le, paste}
+use lib.Dec.{leb}
+use lib.IntN.{ℤ}
+use Rattle.scope.specs.declared.Question.{Question}
+use Rattle.scope.specs.declared.Refusal.{Refusal}
+use Rattle.scope.specs.declared.ReadAnswer.{ReadAnswer}
+use Rattle.scope.specs.declared.Held.{Held}
+use Rattle.scope.specs.declared.BuildAnswer.{BuildAnswer}
+use Rattle.scope.specs.Wire.{readHeld}
+use Rattle.scope.specs.Whole.{joined, atFront}
+use Rattle.scope.specs.Question.{atomsOf, atomCount}
+use Rattle.scope.specs.States.{State, cellsOf, startOf}
+use Rattle.scope.specs.Numbering.{Machine, Rows, machineOf, numbered}
+use Rattle.scope.specs.Deciding.{noRoom, keyCells}
+use Rattle.scope.specs.Sizes.{mostStates}
+use Rattle.scope.specs.Building.{buildRoom, builtIf, builtQuestion, built}
+use Rattle.theory.specs.Lawful.{machine-lawful}
+use Rattle.theory.specs.Table.{numbered-rooted}
+use Rattle.theory.specs.Range.{startOf-in}
+use Rattle.theory.specs.Exploring.{no-rows-more}
+use Rattle.theory.specs.Joined.{atFront-cells, atFront-length}
+use Rattle.theory.specs.Simulation.{Simulates, rowsMap, numbered-maps, states-map, same-length, same-counted, same-table}
+use Rattle.theory.specs.Lengths.{keys-length, build-room-keys, build-room-table}
+use Rattle.theory.specs.Deciding.{rowsOf}
+use Rattle.theory.specs.Built.{builtOf, without-room}
+use Rattle.index.specs.Rows.{stored-at-front}
+use Rattle.theory.specs.Answers.{atom-count}
+use Rattle.theory.specs.Accepted.{WithinLimits, accepted-within}
+use Rattle.step.specs.Eight.{padded}
+use Rattle.step.specs.Cells.{kindCodes, Sums}
+use Rattle.step.specs.Atoms.{few-atoms, kinds-count}
+use Rattle.step.specs.Laws.{Tables, KeyRow, start-cells}
+use Rattle.explore.specs.Areas.{rowCells, front-twice}
+use Rattle.explore.specs.Standing.{Task}
+use Rattle.explore.specs.Outcome.{Ready}
+use Rattle.explore.specs.Simulated.{simulates, question-task, start-fits}
+use Rattle.build.specs.Tabling.{machineIn}
+use Rattle.build.specs.Builds.{Builds, filledIf, filled}
+
+-- ---- a machine that does the same leaves the same
+
+rows-cells : (l : Rows State) → rowCells (rowsMap cellsOf l) ≡ keyCells l
+unfolding rowCells keyCells
+rows-cells l = ap joined (states-map cellsOf (λ s. s) l)
+
+module _ (q : Question) {M : Machine (List ℤ)} {Good : State → Type 0} (same : Simulates (machineOf q) M cellsOf Good) (rows : ℕ) (some : 0 < rows)
+    (start : List ℤ) (width : length start ≡ atomCount q) (keys : List ℤ) (room : atomCount q ≤ length keys) (table : List ℕ) where
+  -- the rows replace the start
+  over-start : (k : ℕ) → 0 < length (take k (rowsOf q rows)) → atFront (keyCells (take k (rowsOf q rows))) (atFront start keys) ≡ atFront (keyCells (take k (rowsOf q rows))) keys
+  over-start k h =
+      let e : 1 * atomCount q ≤ length (take k (rowsOf q rows)) * atomCount q = mul-le-mul-right (atomCount q) h in
+      front-twice start (keyCells (take k (rowsOf q rows))) keys (omega (arith, keys-length q rows k)) (omega arith)
+
+  not-empty : 0 < length (rowsOf q rows)
+  not-empty = numbered-rooted (machineOf q) (machine-lawful q) rows .not-empty
+
+  filled-as : (b : Bool) → filledIf b rows M (numbered M rows) (atFront start keys) table ≡ builtIf b rows (machineOf q) (rowsOf q rows) keys table
+  filled-as true =
+      let cells : rowCells (numbered M rows) ≡ keyCells (rowsOf q rows) = ap rowCells (numbered-maps same rows) ∙ rows-cells (rowsOf q rows) in
+      let over : atFront (keyCells (rowsOf q rows)) (atFront start keys) ≡ atFront (keyCells (rowsOf q rows)) keys =
+      rw (take-length (rowsOf q rows)) at (over-start (length (rowsOf q rows)) (rw (take-length (rowsOf q rows)) not-empty)) in
+      rw (same-length same rows, cells, over, same-table same rows)
+  filled-as false =
+      let cells : rowCells (take rows (numbered M rows)) ≡ keyCells (take rows (rowsOf q rows)) = ap rowCells (same-counted same rows noRoom rows) ∙ rows-cells (take rows (rowsOf q rows)) in
+      rw (cells, over-start rows (omega (arith, length-take rows (rowsOf q rows), not-empty)))
+
+  pub filled-question : filled M rows (atFront start keys) table ≡ builtOf q rows keys table
+  filled-question = rw (same-length same rows) (filled-as (leb (length (rowsOf q rows)) rows))
+
+-- ---- a question's arrays, the rows lent, and the constants stored as row 0 of the keys
+
+pub record Prepared (q : Question) (kinds : List ℕ) (m : ℕ) (sums : List ℤ) (letters rows : ℕ) (keys₀ keys₁ : List ℤ) (table : List ℕ) : Type 0 where
+  pub tables : Tables q kinds m sums
+  pub letters-are : letters ≡ 2 ^ q .n
+  pub rows-are : rows ≡ buildRoom q keys₀ table
+  pub some-rows : 0 < rows
+  pub stored : keys₁ ≡ paste keys₀ (0 * m) (q .constants) m
+
+-- from what the code works out
+pub tables-are : {q : Question} {kinds : List ℕ} {m : ℕ} {sums : List ℤ} → WithinLimits q → (kinds ≡ padded 0 (kindCodes (q .codes))) × (m ≡ length (kindCodes (q .codes)))
+    → Sums (q .n) m (q .coefficients) sums → Tables q kinds m sums
+tables-are {q} w k s = record { limits = w; kinds-are = k .0; count = k .1 ∙ kinds-count q; sums-are = s }
+
+pub room-is : (q : Question) (m letters rows : ℕ) (keys : List ℤ) (table : List ℕ) → m ≡ length (kindCodes (q .codes)) → letters ≡ 2 ^ q .n
+    → rows ≡ min (min (length keys / m) (length table / (1 + letters))) mostStates → rows ≡ buildRoom q keys table
+unfolding buildRoom
+room-is q m letters rows keys table e f g = g ∙ rw (e, kinds-count q, f)
+
+pub some-atoms : {q : Question} → WithinLimits q → 0 < length (kindCodes (q .codes))
+some-atoms {q} w = rw (kinds-count q, atom-count q) (w .some-atom)
+
+rows-fit : (rows w size : ℕ) → rows ≤ size / w → rows * w ≤ size
+rows-fit rows w size h = omega (arith, mul-le-mul-right w h, div-mul-le-self size w)
+
+key-rows-fit : (q : Question) (rows : ℕ) (keys : List ℤ) (table : List ℕ) → rows ≡ buildRoom q keys table → rows * atomCount q ≤ length keys
+key-rows-fit q rows keys table is = rows-fit rows (atomCount q) (length keys) (rw is (build-room-keys q keys table))
+
+pub start-fits-in : (q : Question) (m rows : ℕ) (keys : List ℤ) (table : List ℕ) → m ≡ length (kindCodes (q .codes)) → rows ≡ buildRoom q keys table → 0 < rows
+    → 0 * m + m ≤ length keys
+start-fits-in q m rows keys table e is some =
+    let h : 1 * atomCount q ≤ rows * atomCount q = mul-le-mul-right (atomCount q) some in
+    rw (zero-mul, zero-add, e, kinds-count q) (omega (arith, key-rows-fit q rows keys table is))
+
+module _ {q : Question} {kinds : List ℕ} {m : ℕ} {sums : List ℤ} {letters rows : ℕ} {keys₀ keys₁ : List ℤ} {table : List ℕ}
+    (p : Prepared q kinds m sums letters rows keys₀ keys₁ table) where
+  keys-room : rows * m ≤ length keys₀
+  keys-room = rw (p .tables .count) (key-rows-fit q rows keys₀ table (p .rows-are))
+
+  few-rows : rows ≤ 65535
+  unfolding buildRoom
+  few-rows = omega (arith, p .rows-are)
+
+  one-row : m ≤ length keys₀
+  one-row = let e : 1 * m ≤ rows * m = mul-le-mul-right m (p .some-rows) in omega (arith, keys-room)
+
+  start-are : take m (q .constants) ≡ cellsOf (startOf (atomsOf q))
+  start-are = rw (p .tables .count) (start-cells (p .tables .limits))
+
+  few : m ≤ length (q .constants)
+  few = rw (p .tables .limits .sized .constants, p .tables .count) (few-atoms (p .tables .limits))
+
+  start-width : length (cellsOf (startOf (atomsOf q))) ≡ m
+  start-width = sym (ap length start-are) ∙ length-take-le m (q .constants) few
+
+  keys-are : keys₁ ≡ atFront (cellsOf (startOf (atomsOf q))) keys₀
+  unfolding atFront
+  keys-are =
+      p .stored
+      ∙ rw zero-mul
+      (stored-at-front [] keys₀ (q .constants) m few (rw zero-add one-row) ∙ ap (λ (c : List ℤ). atFront c keys₀) start-are)
+
+  start-taken : take m keys₁ ≡ cellsOf (startOf (atomsOf q))
+  start-taken = rw keys-are (atFront-cells (cellsOf (startOf (atomsOf q))) keys₀ m start-width)
+
+  keys-long : length keys₁ ≡ length keys₀
+  keys-long = rw keys-are (atFront-length (cellsOf (startOf (atomsOf q))) keys₀ (rw start-width one-row))
+
+  start-row : KeyRow q m keys₁ 0 (startOf (atomsOf q))
+  start-row = record { room = omega (arith, keys-long, one-row); inside = startOf-in (atomsOf q); cells = start-taken }
+
+  pub prepared-task : Task (q .codes) m sums letters
+  prepared-task = rw (p .letters-are) (question-task (p .tables))
+
+  pub prepared-ready : Ready (machineIn (q .codes) kinds m sums letters keys₁) m rows false keys₁ []
+  prepared-ready = record {
+    some-rows = p .some-rows;
+    few-rows = few-rows;
+    keys-room = rw keys-long keys-room;
+    path-room = omega arith;
+    start-fits = start-fits (p .tables) start-row;
+    path-start = λ e. absurd (true≢false (sym e));
+    refused = λ e. absurd (true≢false (sym e));
+  }
+
+  pub prepared-table : rows * (1 + letters) ≤ length table
+  prepared-table = rows-fit rows (1 + letters) (length table) (rw (p .letters-are, p .rows-are) (build-room-table q keys₀ table))
+
+  pub prepared-built : {answer : BuildAnswer} {keys : List ℤ} {table₁ : List ℕ}
+      → Builds (filled (machineIn (q .codes) kinds m sums letters keys₁) rows keys₁ table) answer keys table₁ → Builds (builtQuestion q keys₀ table) answer keys table₁
+  unfolding builtQuestion
+  prepared-built b =
+      let e : filled (machineIn (q .codes) kinds m sums letters keys₁) rows keys₁ table ≡ builtOf q rows keys₀ table =
+      rw (start-taken, p .letters-are, keys-are)
+      (filled-question q (simulates (p .tables)) rows (p .some-rows) (cellsOf (startOf (atomsOf q))) (start-width ∙ p .tables .count) keys₀
+      (rw (← p .tables .count) one-row) table) in
+      rw (← p .rows-are) (rw e at b)
+
+-- where no row is lent, nothing changes
+pub nothing-built : (q : Question) (keys : List ℤ) (table : List ℕ) → 0 ≡ buildRoom q keys table
+    → Builds (builtQuestion q keys table) (BuildAnswer.NoRoom 0) keys table
+unfolding builtQuestion keyCells joined atFront
+nothing-built q keys table is = rw (← is, without-room q 0 keys table (no-rows-more (machineOf q))) record { answer = refl; keys = refl; table = refl }
+
+-- ---- from the bytes
+
+module _ (bytes : List ℕ) (keys : List ℤ) (table : List ℕ) {h : Held} (is : h ≡ readHeld bytes) where
+  pub refused-built : {r : Refusal} → h .answer ≡ ReadAnswer.Refused r → Builds (built bytes keys table) (BuildAnswer.Refused r) keys table
+  unfolding built
+  refused-built e = rw (← is, e) record { answer = refl; keys = refl; table = refl }
+
+  pub accepted-limits : h .answer ≡ ReadAnswer.Accepted → WithinLimits (h .question)
+  accepted-limits e = rw is (accepted-within bytes (rw is at e))
+
+  pub accepted-built : h .answer ≡ ReadAnswer.Accepted → {answer : BuildAnswer} {keys₁ : List ℤ} {table₁ : List ℕ}
+      → Builds (builtQuestion (h .question) keys table) answer keys₁ table₁ → Builds (built bytes keys table) answer keys₁ table₁
+  unfolding built
+  accepted-built e b = rw (← is, e) b
