@@ -3,5 +3,5 @@ use Prim.Native.Nat.{ℕ, _≤_, _<_}
 use lib.ListN.{length, replicate, length-replicate}
 
 pub index-sizes : (n count : ℕ) → 0 < n → n ≤ 65536 → count ≤ n
-    → (0 < length {A = ℕ} (replicate n 65535)) × (length {A = ℕ} (replicate n 65535) ≤ 65536) × (count ≤ length {A = ℕ} (replicate n 65535))
+    → (0 < length {A = ℕ} (replicate n 0)) × (length {A = ℕ} (replicate n 0) ≤ 65536) × (count ≤ length {A = ℕ} (replicate n 0))
 index-sizes n count some few h = simp length-replicate (some, few, h)

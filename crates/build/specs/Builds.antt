@@ -3,31 +3,31 @@
 use mathlib.Core.Path.{_≡_, refl, sym, ap, _∙_}
 use mathlib.Core.Bool.{Bool, true, false, true≢false}
 use mathlib.Core.Option.{none}
-use mathlib.Core.List.{List, [], _∷_, _++_, map, append-assoc}
-use Prim.Native.Nat.{ℕ, zero, suc, _+_, _*_, _≤_, _<_}
-use native.Mathlib.Nat.{mul-le-mul-right, zero-mul, suc-mul}
+use mathlib.Core.List.{List}
+use Prim.Native.Nat.{ℕ, _*_, _≤_, _<_}
+use native.Mathlib.Nat.{mul-le-mul-right, zero-mul}
 use native.Mathlib.Omega.{arith}
-use lib.ListN.{length, getD, take, drop, length-take, length-append}
-use lib.Seq.{take-at, getD-take, length-take-le}
+use lib.ListN.{length, take}
+use lib.Seq.{getD-take, length-take-le}
 use lib.Dec.{leb, leb→le}
 use lib.IntN.{ℤ, pos}
 use Rattle.scope.specs.declared.BuildAnswer.{BuildAnswer}
-use Rattle.scope.specs.Whole.{joined, atFront}
-use Rattle.scope.specs.Numbering.{Machine, Row, Rows, startRow, row, numbered}
+use Rattle.scope.specs.Whole.{atFront}
+use Rattle.scope.specs.Numbering.{Machine, Row, Rows, startRow, numbered}
 use Rattle.scope.specs.Deciding.{verdictBy}
 use Rattle.scope.specs.Building.{tableCells, Built}
 use Rattle.theory.specs.Prefix.{prefix-length, numbered-prefix-le, numbered-stays-le}
 use Rattle.theory.specs.Table.{numbered-rooted}
 use Rattle.theory.specs.Exploring.{partial-zero}
-use Rattle.theory.specs.Simulation.{AllGood, good-[], good-∷}
+use Rattle.theory.specs.Simulation.{AllGood}
 use Rattle.theory.specs.Joined.{joined-length, atFront-cells, atFront-length}
 use Rattle.explore.specs.declared.Explored.{Explored}
-use Rattle.explore.specs.Machine.{cellMachine, cell-start, cell-lawful, KeyRow, partial-rows}
+use Rattle.explore.specs.Machine.{cell-start, cell-lawful, KeyRow, partial-rows}
 use Rattle.explore.specs.Areas.{rowCells}
 use Rattle.explore.specs.Standing.{Task}
 use Rattle.explore.specs.Outcome.{exploredAs, Ready, Numbered}
 use Rattle.build.specs.Tabling.{machineIn, AllThere, Tabling, good-at, state-is}
-use Rattle.build.specs.Written.{tableAfter}
+use Rattle.build.specs.Table.{tableAfter}
 
 pub record Builds (b : Built) (answer₁ : BuildAnswer) (keys₁ : List ℤ) (table₁ : List ℕ) : Type 0 where
   pub answer : answer₁ ≡ b .answer
@@ -87,15 +87,13 @@ module _ {M : Machine (List ℤ)} {rows : ℕ} {keys₀ keys : List ℤ} {path�
 module _ (kinds : List ℕ) {codes : List ℕ} {m : ℕ} {sums : List ℤ} {letters : ℕ} (task : Task codes m sums letters) {rows : ℕ} {keys₀ : List ℤ} {path₀ : List ℕ}
     (ready : Ready (machineIn codes kinds m sums letters keys₀) m rows false keys₀ path₀) {keys : List ℤ} {states : ℕ}
     (all : AllRows (machineIn codes kinds m sums letters keys₀) rows keys₀ keys states) where
-  M : Machine (List ℤ)
+  abbrev M : Machine (List ℤ)
   M = machineIn codes kinds m sums letters keys₀
 
   few-states : states ≤ rows
-  unfolding M
   few-states = omega (arith, all .states-are, leb→le (length (numbered M rows)) rows (rw (all .fit) tt))
 
   same-rows : numbered M rows ≡ numbered M states
-  unfolding M
   same-rows = numbered-stays-le M few-states (omega (arith, prefix-length (numbered-prefix-le M few-states), all .states-are))
 
   start-row : KeyRow m (take m keys₀)
@@ -105,21 +103,18 @@ module _ (kinds : List ℕ) {codes : List ℕ} {m : ℕ} {sums : List ℤ} {lett
       record { width = length-take-le m keys₀ room; fits = λ i h. rw (getD-take m keys₀ i (pos 0) h) (ready .start-fits i h) }
 
   good : AllGood (KeyRow m) (numbered M states)
-  unfolding M
   good = rw (partial-zero M states) at (partial-rows codes kinds m sums letters (take m keys₀) (task .sums-fit) start-row states 0 (omega arith))
 
   cells-length : length (rowCells (numbered M states)) ≡ states * m
-  unfolding M rowCells
+  unfolding rowCells
   cells-length =
       joined-length (λ (r : Row (List ℤ)). r .state) m (startRow M) (numbered M states) (λ t h. good-at M m good t h .width)
       ∙ ap (λ (n : ℕ). n * m) (sym (ap length same-rows) ∙ sym (all .states-are))
 
   keys-are : keys ≡ atFront (rowCells (numbered M states)) keys₀
-  unfolding M
   keys-are = rw same-rows at (all .keys-are)
 
   there : AllThere M m states keys
-  unfolding M
   there =
       let fit : states * m ≤ rows * m = mul-le-mul-right m few-states in
       let room : states * m ≤ length keys₀ = omega (arith, ready .keys-room) in
@@ -131,7 +126,7 @@ module _ (kinds : List ℕ) {codes : List ℕ} {m : ℕ} {sums : List ℤ} {lett
       }
 
   same-start : take m keys ≡ take m keys₀
-  unfolding M startRow
+  unfolding startRow
   same-start =
       let rooted = numbered-rooted M (cell-lawful codes kinds m sums letters (take m keys₀)) states in
       let some : 0 < states = omega (arith, rooted .not-empty, there .size) in
@@ -144,12 +139,10 @@ module _ (kinds : List ℕ) {codes : List ℕ} {m : ℕ} {sums : List ℤ} {lett
   table-fits width size h = omega (arith, mul-le-mul-right width few-states)
 
   pub tabling : Tabling codes kinds m sums letters keys states
-  unfolding M
   tabling = record { task = task; there = rw same-start there }
 
   pub all-built : (table : List ℕ) {table₁ : List ℕ} → table₁ ≡ tableAfter codes kinds m sums letters keys states table
       → Builds (filled (machineIn codes kinds m sums letters keys₀) rows keys₀ table) (BuildAnswer.Built states) keys table₁
-  unfolding M
   all-built table e = rw (all .fit) (record {
     answer = ap BuildAnswer.Built (all .states-are);
     keys = all .keys-are;

@@ -1,5 +1,5 @@
 -- Lists that are written from the front on: a row of the table cell by cell, and the table row by row, in the part that is lent for each.
-use mathlib.Core.Path.{_≡_, refl, sym, ap, _∙_}
+use mathlib.Core.Path.{_≡_, refl, ap, _∙_}
 use mathlib.Core.Bool.{cond}
 use mathlib.Core.List.{List, [], _∷_, _++_, map, map-append, append-assoc, append-nil}
 use Prim.Native.Nat.{ℕ, zero, suc, _+_, _*_, _≤_, _<_}
@@ -7,7 +7,7 @@ use native.Mathlib.Nat.{zero-add}
 use native.Mathlib.Numerals.{add-one}
 use native.Mathlib.Omega.{arith}
 use lib.ListN.{length, getD, take, drop, set, length-append, length-take}
-use lib.Seq.{take-suc, take-suc-set, take-length, take-at, drop-at, drop-drop, getD-take}
+use lib.Seq.{take-suc, take-suc-set, take-length, take-at, drop-at, drop-drop}
 use borrow.Rule.Slice.PartMut.{putMid}
 use Rattle.scope.specs.Whole.{joined, atFront}
 use Rattle.scope.specs.Numbering.{Machine, Row, Rows, row, startRow, numberOf}

@@ -1,6 +1,7 @@
--- Building: the rows that are all there, a table written row by row, and the answer with the lent areas afterwards.
+-- Building: the rows that are all there, a row and the table as they are written, and the answer with the lent areas afterwards.
 pub mod Front
 pub mod Tabling
-pub mod Written
+pub mod Row
+pub mod Table
 pub mod Builds
 pub mod Asked

@@ -2,26 +2,24 @@
 -- the target's number.
 use mathlib.Core.Path.{_≡_, refl, sym, ap, _∙_}
 use mathlib.Core.Logic.{by-cases}
-use mathlib.Core.Bool.{Bool, false, cond}
-use mathlib.Core.List.{List, [], _∷_, _++_, map}
+use mathlib.Core.Bool.{false}
+use mathlib.Core.List.{List, [], _∷_, map}
 use Prim.Native.Nat.{ℕ, zero, suc, _+_, _*_, _≤_, _<_}
 use native.Mathlib.Nat.{zero-add}
 use native.Mathlib.Decide.{decLt}
 use native.Mathlib.Omega.{arith}
-use lib.ListN.{length, getD, take, drop}
-use lib.Seq.{ext-getD}
+use lib.ListN.{length, getD, take}
 use lib.IntN.{ℤ, pos}
 use Rattle.scope.specs.Question.{nodeOf}
 use Rattle.scope.specs.States.{formulaWorth}
-use Rattle.scope.specs.Numbering.{Machine, Row, Rows, startRow, row, numbered, numberOf}
-use Rattle.scope.specs.Building.{nextStates, tableRow}
+use Rattle.scope.specs.Numbering.{Machine, Rows, row, numbered, numberOf}
 use Rattle.theory.specs.Numbers.{HasNumber, number-is, number-step}
 use Rattle.theory.specs.Table.{numbered-rooted}
 use Rattle.theory.specs.Simulation.{AllGood, good-[], good-∷}
 use Rattle.index.specs.Rows.{rowAt, row-cell, row-end}
 use Rattle.index.specs.Index.{Finds}
-use Rattle.step.specs.Eight.{listed, padded, length-listed, getD-listed, take-padded}
-use Rattle.step.specs.Cells.{kindOf, stepCell, worthCell, stepAt, worthAt, stepCells, worthCells, Stepping}
+use Rattle.step.specs.Eight.{listed, padded, length-listed, getD-listed, listed-is, take-padded}
+use Rattle.step.specs.Cells.{stepAt, worthAt, stepCells, worthCells, Stepping}
 use Rattle.explore.specs.Machine.{cellMachine, cell-letters, cell-step, cell-accepts, cell-lawful, KeyRow}
 use Rattle.explore.specs.Areas.{rowCells, pathRows, Held, held-row}
 use Rattle.explore.specs.Standing.{Task}
@@ -60,38 +58,27 @@ module _ {M : Machine (List ℤ)} {m count : ℕ} {keys : List ℤ} (a : AllTher
   state-fits t h = good-at M m (a .good) t (omega (arith, a .size))
 
 -- a row's target and worths, from the row's own cells
-step-row-cells : (kinds : List ℕ) (m : ℕ) (sums : List ℤ) (letter : ℕ) (keys : List ℤ) (s : ℕ)
-    → stepCells kinds m sums letter keys (s * m) ≡ stepCells kinds m sums letter (rowAt keys m s) 0
-unfolding stepCells
-step-row-cells kinds m sums letter keys s =
-    ext-getD (pos 0) (listed (stepAt kinds sums letter keys (s * m)) m) (listed (stepAt kinds sums letter (rowAt keys m s) 0) m)
-    (length-listed (stepAt kinds sums letter keys (s * m)) m ∙ sym (length-listed (stepAt kinds sums letter (rowAt keys m s) 0) m))
-    (λ i h.
-    let p : i < m = omega (arith, length-listed (stepAt kinds sums letter keys (s * m)) m) in
-    rw (
-      getD-listed (stepAt kinds sums letter keys (s * m)) m i (pos 0) p,
-      getD-listed (stepAt kinds sums letter (rowAt keys m s) 0) m i (pos 0) p,
-      zero-add,
-      row-cell keys m s i (pos 0) p,
-    ))
+module _ (kinds : List ℕ) (m : ℕ) (keys : List ℤ) (s : ℕ) where
+  cell-is : (i : ℕ) → i < m → getD keys (s * m + i) (pos 0) ≡ getD (rowAt keys m s) (0 + i) (pos 0)
+  cell-is i h = rw zero-add (sym (row-cell keys m s i (pos 0) h))
 
-worth-row-cells : (kinds : List ℕ) (m : ℕ) (keys : List ℤ) (s : ℕ) → worthCells kinds m keys (s * m) ≡ worthCells kinds m (rowAt keys m s) 0
-unfolding worthCells
-worth-row-cells kinds m keys s =
-    ext-getD false (listed (worthAt kinds keys (s * m)) m) (listed (worthAt kinds (rowAt keys m s) 0) m)
-    (length-listed (worthAt kinds keys (s * m)) m ∙ sym (length-listed (worthAt kinds (rowAt keys m s) 0) m))
-    (λ i h.
-    let p : i < m = omega (arith, length-listed (worthAt kinds keys (s * m)) m) in
-    rw (
-      getD-listed (worthAt kinds keys (s * m)) m i false p,
-      getD-listed (worthAt kinds (rowAt keys m s) 0) m i false p,
-      zero-add,
-      row-cell keys m s i (pos 0) p,
-    ))
+  step-is : (sums : List ℤ) (letter : ℕ) → stepCells kinds m sums letter keys (s * m) ≡ stepCells kinds m sums letter (rowAt keys m s) 0
+  unfolding stepCells
+  step-is sums letter =
+      let row = stepAt kinds sums letter (rowAt keys m s) 0 in
+      listed-is (pos 0) (stepAt kinds sums letter keys (s * m)) m (listed row m) (length-listed row m)
+      (λ i h. rw (cell-is i h) (sym (getD-listed row m i (pos 0) h)))
+
+  worths-are : worthCells kinds m keys (s * m) ≡ worthCells kinds m (rowAt keys m s) 0
+  unfolding worthCells
+  worths-are =
+      let row = worthAt kinds (rowAt keys m s) 0 in
+      listed-is false (worthAt kinds keys (s * m)) m (listed row m) (length-listed row m)
+      (λ i h. rw (cell-is i h) (sym (getD-listed row m i false h)))
 
 module _ {codes kinds : List ℕ} {m : ℕ} {sums : List ℤ} {letters : ℕ} {keys : List ℤ} {count : ℕ} (t : Tabling codes kinds m sums letters keys count)
     (s : ℕ) (below : s < count) where
-  M : Machine (List ℤ)
+  abbrev M : Machine (List ℤ)
   M = machineIn codes kinds m sums letters keys
 
   pub row-room : s * m + m ≤ length keys
@@ -107,28 +94,26 @@ module _ {codes kinds : List ℕ} {m : ℕ} {sums : List ℤ} {letters : ℕ} {k
   }
 
   -- the mark of the row
-  pub mark-is : formulaWorth (map nodeOf codes) (worthCells kinds m keys (s * m))
-      ≡ machineIn codes kinds m sums letters keys .accepts (row (machineIn codes kinds m sums letters keys) (numbered (machineIn codes kinds m sums letters keys) count) s .state)
-  unfolding M
+  pub mark-is : let M = machineIn codes kinds m sums letters keys in
+      formulaWorth (map nodeOf codes) (worthCells kinds m keys (s * m)) ≡ M .accepts (row M (numbered M count) s .state)
   mark-is =
-      ap (formulaWorth (map nodeOf codes)) (worth-row-cells kinds m keys s ∙ ap (λ (k : List ℤ). worthCells kinds m k 0) (state-is (t .there) s below))
+      ap (formulaWorth (map nodeOf codes)) (worths-are kinds m keys s ∙ ap (λ (k : List ℤ). worthCells kinds m k 0) (state-is (t .there) s below))
       ∙ sym (cell-accepts codes kinds m sums letters (take m keys) _)
 
   -- the target's cells
-  target-is : (letter : ℕ) → take m (padded (pos 0) (stepCells kinds m sums letter keys (s * m)))
-      ≡ machineIn codes kinds m sums letters keys .step (row (machineIn codes kinds m sums letters keys) (numbered (machineIn codes kinds m sums letters keys) count) s .state) letter
+  target-is : (letter : ℕ) → let M = machineIn codes kinds m sums letters keys in
+      take m (padded (pos 0) (stepCells kinds m sums letter keys (s * m))) ≡ M .step (row M (numbered M count) s .state) letter
   unfolding stepCells
   target-is letter =
       take-padded (pos 0) (stepCells kinds m sums letter keys (s * m)) m (length-listed _ m)
-      ∙ step-row-cells kinds m sums letter keys s
+      ∙ step-is kinds m keys s sums letter
       ∙ ap (λ (k : List ℤ). stepCells kinds m sums letter k 0) (state-is (t .there) s below)
       ∙ sym (cell-step codes kinds m sums letters (take m keys) _ letter)
 
   -- the row that has them is the target's number
   pub found-is : (letter r : ℕ) → letter < letters → Finds keys m (padded (pos 0) (stepCells kinds m sums letter keys (s * m))) count r
-      → r ≡ numberOf (machineIn codes kinds m sums letters keys) (numbered (machineIn codes kinds m sums letters keys) count)
-      (machineIn codes kinds m sums letters keys .step (row (machineIn codes kinds m sums letters keys) (numbered (machineIn codes kinds m sums letters keys) count) s .state) letter)
-  unfolding M
+      → let M = machineIn codes kinds m sums letters keys in
+      r ≡ numberOf M (numbered M count) (M .step (row M (numbered M count) s .state) letter)
   found-is letter r h f =
       let ok = cell-lawful codes kinds m sums letters (take m keys) in
       let l = numbered M count in

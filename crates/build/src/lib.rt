@@ -27,8 +27,15 @@ ghost use Rattle.index.specs.Index.{Indexed, Finds};
 ghost use Rattle.explore.specs.Standing.{Task};
 ghost use Rattle.explore.specs.Outcome.{Ready};
 ghost use Rattle.build.specs.Tabling.{machineIn, Tabling};
-ghost use Rattle.build.specs.Written.{rowOf, tableAfter};
+ghost use Rattle.build.specs.Row.{rowOf};
+ghost use Rattle.build.specs.Table.{tableAfter};
 ghost use Rattle.build.specs.Builds.{Builds, filled};
+
+// The rows for which the small index has room, and its buckets.
+const FEW: usize = 256;
+
+// The same of the large index.
+const MANY: usize = 65_536;
 
 // The row that has the cells to which a letter leads from a row.
 fn next_state(
@@ -172,8 +179,8 @@ fn write_few(
     requires { ⌜ (count ≤ 256) × (count * (1 + letters) ≤ length (now table)) ⌝ }
     ensures { λ _. ⌜ now (table .exit) ≡ tableAfter (now (codes .entry)) (now (kinds .entry)) m (now (sums .entry)) letters (now (keys .entry)) count (now (table .entry)) ⌝ }
 {
-    let mut head = [65535u16; 256];
-    let mut next = [65535u16; 256];
+    let mut head = [0u16; FEW];
+    let mut next = [0u16; FEW];
     write_indexed(
         table,
         codes,
@@ -203,8 +210,8 @@ fn write_many(
     requires { ⌜ (count ≤ 65535) × (count * (1 + letters) ≤ length (now table)) ⌝ }
     ensures { λ _. ⌜ now (table .exit) ≡ tableAfter (now (codes .entry)) (now (kinds .entry)) m (now (sums .entry)) letters (now (keys .entry)) count (now (table .entry)) ⌝ }
 {
-    let mut head = [65535u16; 65536];
-    let mut next = [65535u16; 65536];
+    let mut head = [0u16; MANY];
+    let mut next = [0u16; MANY];
     write_indexed(
         table,
         codes,
@@ -234,7 +241,7 @@ fn write_table(
     requires { ⌜ (count ≤ 65535) × (count * (1 + letters) ≤ length (now table)) ⌝ }
     ensures { λ _. ⌜ now (table .exit) ≡ tableAfter (now (codes .entry)) (now (kinds .entry)) m (now (sums .entry)) letters (now (keys .entry)) count (now (table .entry)) ⌝ }
 {
-    if count <= 256 {
+    if count <= FEW {
         write_few(table, codes, kinds, m, sums, letters, keys, count);
     } else {
         write_many(table, codes, kinds, m, sums, letters, keys, count);

@@ -5,7 +5,7 @@ use Prim.Native.Nat.{_-_}
 use native.Mathlib.Omega.{arith}
 use borrow.Author.Needs.{needs}
 use Rattle.build.specs.Tabling.{row-room, steppable}
-use Rattle.build.specs.Written.{Begun, mark-written, next-written, row-written}
+use Rattle.build.specs.Row.{Begun, mark-written, next-written, row-written}
 use Rattle.build.proofs.write_row.Statement.{statement}
 use Rattle.build.proofs.write_row.Tie as tie
 

@@ -1,13 +1,13 @@
 -- `build::write_rows` meets its contract. The invariant: the rows before `row` are written and the cells beyond them are as they were. The
 -- measure is count less `row`. Assumes nothing.
-use mathlib.Core.Path.{sym, _∙_}
+use mathlib.Core.Path.{_∙_}
 use Prim.Native.Nat.{_+_, _*_, _-_, _≤_}
 use native.Mathlib.Omega.{arith}
 use borrow.Author.Needs.{needs}
-use lib.ListN.{length, take, drop, length-take, length-drop}
+use lib.ListN.{length, length-take, length-drop}
 use borrow.Rule.Slice.PartMut.{same-len-mid}
 use Rattle.index.specs.Rows.{row-end}
-use Rattle.build.specs.Written.{RowsWritten, no-row-written, row-more, all-rows-written}
+use Rattle.build.specs.Table.{RowsWritten, no-row-written, row-more, all-rows-written}
 use Rattle.build.proofs.write_rows.Statement.{statement}
 use Rattle.build.proofs.write_rows.Tie as tie
 
