@@ -1,12 +1,11 @@
--- Document 01, on a place in a question: what a bare step makes of it, in terms of the answer at the record.
-use Prim.Native.Nat.{ℕ}
+-- Document 01, on a place in a question: what a bare step makes of it, in terms of scope's answer at the record.
+use Prim.Native.Nat.{ℕ, _+_}
 use mathlib.Core.Path.{_≡_}
-use mathlib.Core.List.{List, []}
+use mathlib.Core.List.{List}
 use lib.ListN.{take, drop}
-use denote.Ref.{now}
+use denote.Ref.{RefT, ptr, now}
 use Rattle.scope.specs.declared.RecordAnswer.{RecordAnswer}
 use Rattle.scope.specs.Wire.{recordAt}
-use Rattle.wire.specs.Steps.{partOf}
 use Rattle.place.specs.declared.Place.{Place}
 use Rattle.place.specs.declared.Step.{Step}
 
@@ -18,22 +17,23 @@ movedBy (RecordAnswer.Refused r) at = at
 abbrev pub movedTo : List ℕ → ℕ → ℕ
 movedTo b at = movedBy (recordAt b at) at
 
--- that stretch of the bytes; refused, none
-abbrev pub bodyBy : List ℕ → RecordAnswer → List ℕ
-bodyBy b (RecordAnswer.Record kind start len next) = take len (drop start b)
-bodyBy b (RecordAnswer.Refused r) = []
+-- where the body starts, and how long it is; refused, no bytes, at the start
+abbrev pub startBy : RecordAnswer → ℕ
+startBy (RecordAnswer.Record kind start len next) = start
+startBy (RecordAnswer.Refused r) = 0
 
-abbrev pub bodyAt : List ℕ → ℕ → List ℕ
-bodyAt b at = bodyBy b (recordAt b at)
+abbrev pub lenBy : RecordAnswer → ℕ
+lenBy (RecordAnswer.Record kind start len next) = len
+lenBy (RecordAnswer.Refused r) = 0
 
--- the same of any answer, which need not fit into the bytes
-abbrev pub partBy : List ℕ → RecordAnswer → List ℕ
-partBy b (RecordAnswer.Record kind start len next) = partOf b start len
-partBy b (RecordAnswer.Refused r) = []
+-- a stretch of the caller's own bytes, uncopied: it lies in them, start bytes on, and holds len of them
+pub record StretchOf (bytes : RefT (List ℕ)) (start len : ℕ) (stretch : RefT (List ℕ)) : Type 0 where
+  pub lies : ptr stretch ≡ (ptr bytes .0, ptr bytes .1 + start)
+  pub holds : now stretch ≡ take len (drop start (now bytes))
 
 -- what a step from a place gives
 pub record Stepped (p : Place) (s : Step) : Type 0 where
   pub sameBytes : s .place .bytes ≡ p .bytes
   pub moved : s .place .at ≡ movedTo (now (p .bytes)) (p .at)
   pub answered : s .answer ≡ recordAt (now (p .bytes)) (p .at)
-  pub handed : now (s .body) ≡ bodyAt (now (p .bytes)) (p .at)
+  pub handed : StretchOf (p .bytes) (startBy (recordAt (now (p .bytes)) (p .at))) (lenBy (recordAt (now (p .bytes)) (p .at))) (s .body)

@@ -1,10 +1,11 @@
 // A place in a question, opened on the caller's own bytes and moved record by record, as document 01 has it.
 // The struct holds the slice, so each function over it is thin, calls functions on plain slices, and is proved by a walk.
 ghost use mathlib.Core.Path.{_≡_};
+ghost use Prim.Native.Nat.{_+_, _≤_};
+ghost use lib.ListN.{length};
 ghost use Rattle.scope.specs.Wire.{recordAt};
-ghost use Rattle.place.specs.Steps.{movedBy, partBy, Stepped};
+ghost use Rattle.place.specs.Steps.{movedBy, startBy, lenBy, StretchOf, Stepped};
 use scope::RecordAnswer;
-use wire::body;
 use wire::record_at;
 
 pub struct Place<'a> {
@@ -47,8 +48,16 @@ fn moved(answer: RecordAnswer, at: usize) -> usize
     }
 }
 
+fn stretch<'a>(bytes: &'a [u8], start: usize, len: usize) -> &'a [u8]
+    requires { ⌜ start + len ≤ length (now bytes) ⌝ }
+    ensures { λ r. ⌜ StretchOf (bytes .entry) start len r ⌝ }
+{
+    &bytes[start..start + len]
+}
+
 fn body_of<'a>(bytes: &'a [u8], answer: RecordAnswer) -> &'a [u8]
-    ensures { λ r. ⌜ now r ≡ partBy (now (bytes .entry)) answer ⌝ }
+    requires { ⌜ startBy answer + lenBy answer ≤ length (now bytes) ⌝ }
+    ensures { λ r. ⌜ StretchOf (bytes .entry) (startBy answer) (lenBy answer) r ⌝ }
 {
     match answer {
         RecordAnswer::Record {
@@ -56,8 +65,8 @@ fn body_of<'a>(bytes: &'a [u8], answer: RecordAnswer) -> &'a [u8]
             start,
             len,
             next: _,
-        } => body(bytes, start, len),
-        RecordAnswer::Refused(_) => &bytes[..0],
+        } => stretch(bytes, start, len),
+        RecordAnswer::Refused(_) => stretch(bytes, 0, 0),
     }
 }
 
