@@ -1,6 +1,5 @@
 -- `place::body_of` meets its contract: each case of the answer says where the stretch starts, and how long it is.
 use borrow.Author.Needs.{needs}
-use native.Mathlib.Omega.{arith}
 use Rattle.place.proofs.body_of.Statement.{statement}
 use Rattle.place.proofs.body_of.Tie as tie
 

@@ -1,4 +1,4 @@
--- `place::stretch` meets its contract.
+-- `place::stretch` meets its contract: the part's pointer is the bytes', start on, and its end less its start is len.
 use borrow.Author.Needs.{needs}
 use native.Mathlib.Nat.{add-comm, add-sub-cancel-left}
 use mathlib.Core.Path.{ap}

@@ -18,7 +18,7 @@ use prog.Wp.{Heap, Calls, Loops, WpFn, Tables}
 use ghost.Atoms.{Atoms, sem}
 use contract.Monad.{Fun, fact}
 use contract.Running.{givenOf, tables, tablesOf}
-use types.Kit.{Given, ‵, raw, _⊛_, ⋆, some, later, _$_, _∵_, !, qed, by, move, drop, use0, use1, use2, split, join, pick, fsplit, fjoin, suffices, frame, await, rewrite, done}
+use types.Kit.{Given, ‵, raw, _⊛_, ⋆, some, later, _$_, _∵_, !, qed, by, move, drop, use0, use1, use2, split, join, pick, fjoin, suffices, frame, await, rewrite, done}
 use types.Part.{agg, whole, sub, look-in}
 use types.Run.{look, init, forget, stop, fld, from, load, of-opd, and-then, no-more, assigns, land, returns, enter, alloc1, alloc0, params1, pass1, pass0, free1, free0}
 use sound.WpLaws.{FmC, fmOf, WpFn-mono}
@@ -96,7 +96,7 @@ module _ {M : Type 1} (𝓤 : URA M) (H : Heap 𝓤) (A : Atoms 𝓤) (W : Given
   abbrev OwnBody : RefT (List ℕ) → Val → Fml
   OwnBody t w = ShrSlice (named 0) κ u8 .own t (w ∷ [])
 
-  -- `body_of`: what it is passed, what it asks, which what the place owns gives, and what it says
+  -- `body_of`: what it is passed, and what it asks, which what the place owns gives
   abbrev to-body : RecordAnswer → BodyOf 𝓤 H A mem run .Ghost
   to-body r = (((κ, tt), (q, tt), tt, (d .bytes, (r, tt)), (v d ∷ [], (av r ∷ [], tt))), tt)
 
@@ -108,7 +108,7 @@ module _ {M : Type 1} (𝓤 : URA M) (H : Heap 𝓤) (A : Atoms 𝓤) (W : Given
       move ! (2 ∷ 0 ∷ []) $ use2 W (raw (BodyOf 𝓤 H A mem run .pre (to-body r)))
       (qed W ((‵ (flft κ q) ⊛ ‵ ftrue) ∷ ‵ (owns (ShrSlice (named 0) κ u8 ∷ S.the-row ∷ []) (d .bytes, (r, tt)) (v d ∷ [], (av r ∷ [], tt))) ∷ []) ∵ says ! fits $ frame ! $ done !) $ frame ! $ done !
 
-  -- what it says
+  -- what it says: of a record, its body
   abbrev Body : RecordAnswer → RefT (List ℕ) → Type 0
   Body r t = StretchOf (d .bytes) (startBy r) (lenBy r) t
 
@@ -127,6 +127,7 @@ module _ {M : Type 1} (𝓤 : URA M) (H : Heap 𝓤) (A : Atoms 𝓤) (W : Given
   moved-said : (r : RecordAnswer) (k : ℕ) → ent 𝓤 (ensured 𝓤 H A moved.ended (moved.clauses 𝓤 H A mem run) tt (r, (d .at, tt)) tt k) (fact 𝓤 (k ≡ movedBy r (d .at)))
   moved-said r k = exE 𝓤 _ (λ ws. snd∗ 𝓤 (sem 𝓤 H A (lasts moved.ended tt (r, (d .at, tt)) ws)) (fact 𝓤 (k ≡ movedBy r (d .at))))
 
+  -- what `body_of` requires
   fits : (r : RecordAnswer) → r ≡ found d → startBy r + lenBy r ≤ length (now (d .bytes))
   fits r e = rw e (within (now (d .bytes)) (d .at))
 
