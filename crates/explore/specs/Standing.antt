@@ -113,7 +113,8 @@ pub record RowAdded (codes kinds : List ℕ) (m : ℕ) (deciding : Bool) (key : 
   pub indexed : Indexed keys m head next (count + 1)
   pub says : r ≡ deciding && formulaWorth (map nodeOf codes) (worthCells kinds m (take m key) 0)
 
-pub record RowFits (codes : List ℕ) (m : ℕ) (next : List ℕ) (count i a : ℕ) : Type 0 where
+-- what row count, numbered from letter a of row i, asks besides room in the areas
+pub record RowFits (codes next : List ℕ) (count i a : ℕ) : Type 0 where
   pub codes-whole : length codes ≡ 64
   pub number : count < 65535
   pub link : count < length next

@@ -164,7 +164,7 @@ fn add_row(
 ) -> bool
     requires { ⌜ Indexed (now keys) m (now head) (now next) count ⌝ }
     requires { ⌜ RowRoom m deciding count (now key) (now keys) (now path) ⌝ }
-    requires { ⌜ RowFits (now codes) m (now next) count row letter ⌝ }
+    requires { ⌜ RowFits (now codes) (now next) count row letter ⌝ }
     ensures { λ r. ⌜ RowAdded (now (codes .entry)) (now (kinds .entry)) m deciding (now (key .entry)) count row letter (now (keys .entry)) (now (path .entry)) (now (keys .exit)) (now (path .exit)) (now (head .exit)) (now (next .exit)) r ⌝ }
 {
     add(keys, m, key, head, next, count);
