@@ -1,0 +1,4 @@
+-- What the contracts of the public calls promise together: the demands, sentence by sentence.
+pub mod Calls
+pub mod Once
+pub mod Demand1

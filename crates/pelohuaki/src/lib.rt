@@ -1,0 +1,20 @@
+// The public calls and their types, under one roof. What their contracts promise together is in specs/.
+pub use judge::judge;
+pub use scope::BuildAnswer;
+pub use scope::DecideAnswer;
+pub use scope::Held;
+pub use scope::Limits;
+pub use scope::Question;
+pub use scope::ReadAnswer;
+pub use scope::RecordAnswer;
+pub use scope::Refusal;
+pub use scope::SpellAnswer;
+pub use scope::TruthAnswer;
+pub use scope::WriteAnswer;
+pub use wire::ReadPart;
+pub use wire::body;
+pub use wire::read;
+pub use wire::read_from;
+pub use wire::record_at;
+pub use words::run;
+pub use words::spell;
