@@ -3,14 +3,15 @@
 -- "Any question, table, word or value lent to it gets an answer, and nothing is assumed to have been looked at before." No call has a
 -- `requires`, and each is proved to end. What follows has no hypothesis on what is lent, except where it says that bytes are accepted.
 use mathlib.Core.Path.{_≡_, refl, sym, ap, _∙_}
-use mathlib.Core.Logic.{_↔_, _⊎_, inl, inr, _≢_, Iff·trans}
+use mathlib.Core.Logic.{_↔_, _⊎_, inl, inr, ⊎-elim, _≢_, Iff·trans}
 use mathlib.Core.Bool.{Bool, true, false, _&&_}
 use mathlib.Core.Option.{Option, none, some}
 use mathlib.Core.List.{List, [], _∷_}
-use Prim.Native.Nat.{ℕ, _≤_, _<_}
+use Prim.Native.Nat.{ℕ, _-_, _<_}
 use native.Mathlib.Omega.{arith}
 use lib.ListN.{length}
-use lib.Dec.{leb}
+use lib.Dec.{leb, leb→le, nleb→lt, not-T}
+use lib.Ieee.Bits.{is-false}
 use lib.IntN.{ℤ}
 use Rattle.scope.specs.declared.Question.{Question}
 use Rattle.scope.specs.declared.Refusal.{Refusal}
@@ -23,10 +24,11 @@ use Rattle.scope.specs.declared.BuildAnswer.{BuildAnswer}
 use Rattle.scope.specs.declared.SpellAnswer.{SpellAnswer}
 use Rattle.scope.specs.Sizes.{mostSpelled, variablesFit}
 use Rattle.scope.specs.Question.{atomCount}
-use Rattle.scope.specs.Refusals.{Check, check, refusal, firstRefusal}
+use Rattle.scope.specs.Refusals.{Check, check, refusal, firstRefusal, Progress, stopped, going, ended}
 use Rattle.scope.specs.Wire.{readHeld}
-use Rattle.scope.specs.Writing.{Wrote, wrote}
+use Rattle.scope.specs.Writing.{Walk, written, Wrote, fitted, wroteOf, wrote}
 use Rattle.scope.specs.Words.{Word, lettersFit, value, valueOr, spelt}
+use Rattle.scope.specs.States.{satisfied}
 use Rattle.scope.specs.Running.{tableFits, saysYes, truthOf, truthOr, ran}
 use Rattle.scope.specs.Judging.{judged}
 use Rattle.scope.specs.Deciding.{decideRoom, Decided, decided}
@@ -34,9 +36,10 @@ use Rattle.scope.specs.Building.{buildRoom, Built, built}
 use Rattle.theory.specs.Checks.{Passed, none-iff-passed, FirstFailing, some-iff-failing}
 use Rattle.theory.specs.Stopped.{StoppedAt, LeftBytes}
 use Rattle.theory.specs.Answers.{refused-iff}
+use Rattle.theory.specs.WritingStopped.{RefusedAt, written-stopped-iff, never-half-written}
 use Rattle.theory.specs.Decided as deciding
 use Rattle.theory.specs.Built as building
-use Rattle.theory.specs.Areas.{Filled, keyCell, pathCell, decided-keys, decided-path, built-keys}
+use Rattle.theory.specs.Areas.{statesTold, builtTold, Filled, keyCell, pathCell, decided-keys, decided-path, built-keys}
 use Rattle.theory.specs.Lengths.{decided-keys-length, decided-path-length, decided-word-length, built-keys-length, built-table-length, wrote-length}
 use Rattle.theory.specs.Agreement.{Taken, judged-accepted, judged-truth, judged-refused}
 use Rattle.theory.specs.Buffers.{wrote-refused}
@@ -120,3 +123,186 @@ module _ (bytes : List ℕ) (keys : List ℤ) (table : List ℕ) where
 
   pub build-refused : {o : Built} → BuildOutcome bytes keys table o → (ρ : Refusal) → (o .answer ≡ BuildAnswer.Refused ρ) ↔ Breaks bytes ρ
   build-refused out ρ = rw (out .answer) (Iff·trans (built-refused ρ) (refused-iff bytes ρ))
+
+-- judging: the question first; then 9 for other than n values or a value above the limit
+pub record OtherValues (bytes values : List ℕ) (ρ : Refusal) : Type 0 where
+  pub question : Question
+  pub accepted : AcceptedAs bytes question
+  pub others : ¬ Taken question values
+  pub told : ρ ≡ refusal 9 0
+
+truth-not-refused : (b : Bool) (ρ : Refusal) → truthOf b ≢ TruthAnswer.Refused ρ
+truth-not-refused true ρ e = let z : _≡_ {A = ℕ} 0 1 = cc in omega arith
+truth-not-refused false ρ e = let z : _≡_ {A = ℕ} 0 1 = cc in omega arith
+
+module _ (bytes values : List ℕ) where
+  judged-unread : (ρ : Refusal) → readHeld bytes .answer ≡ ReadAnswer.Refused ρ → judged bytes values ≡ TruthAnswer.Refused ρ
+  unfolding judged
+  judged-unread ρ e = rw e
+
+  pub judge-refused : {t : TruthAnswer} → JudgeOutcome bytes values t → (ρ : Refusal) → (t ≡ TruthAnswer.Refused ρ) ↔ (Breaks bytes ρ ⊎ OtherValues bytes values ρ)
+  judge-refused out ρ = rw out (said (either-way bytes), ⊎-elim (λ b. judged-unread ρ (refused-iff bytes ρ .1 b)) other)
+    where
+      said : Read bytes → judged bytes values ≡ TruthAnswer.Refused ρ → Breaks bytes ρ ⊎ OtherValues bytes values ρ
+      said (refused-by σ e) x =
+          let y = judged-unread σ e in
+          let s : σ ≡ ρ = cc in
+          inl (refused-iff bytes ρ .0 (e ∙ ap ReadAnswer.Refused s))
+      said (accepted-as q e) x =
+          let y = judged-accepted bytes values q e in
+          let n : ¬ Taken q values = λ t. truth-not-refused (satisfied q values) ρ (sym (judged-truth q values t) ∙ sym y ∙ x) in
+          let z = judged-refused q values n in
+          let s : ρ ≡ refusal 9 0 = cc in
+          inr (record { question = q; accepted = e; others = n; told = s })
+
+      other : OtherValues bytes values ρ → judged bytes values ≡ TruthAnswer.Refused ρ
+      other v = judged-accepted bytes values (v .question) (v .accepted) ∙ judged-refused (v .question) values (v .others) ∙ ap TruthAnswer.Refused (sym (v .told))
+
+-- running: 4 for n, 11 for the table, 10 for a letter, in this order
+abbrev pub runChecks : ℕ → List ℕ → Word → List Check
+runChecks n cells word = check 4 0 (variablesFit n) ∷ check 11 0 (tableFits n cells) ∷ check 10 0 (lettersFit n word) ∷ []
+
+truth-or : (o : Option Refusal) (b : Bool) (ρ : Refusal) → (truthOr o b ≡ TruthAnswer.Refused ρ) ↔ (o ≡ some ρ)
+truth-or none b ρ = (λ e. absurd (truth-not-refused b ρ e), λ e. let z : _≡_ {A = ℕ} 0 1 = cc in absurd (omega arith))
+truth-or (some σ) b ρ = (λ e. cc, λ e. cc)
+
+module _ (n : ℕ) (cells : List ℕ) (word : Word) where
+  pub run-refused : {t : TruthAnswer} → RunOutcome n cells word t → (ρ : Refusal) → (t ≡ TruthAnswer.Refused ρ) ↔ FirstFailing (runChecks n cells word) ρ
+  unfolding ran
+  run-refused out ρ = rw out (Iff·trans (truth-or (firstRefusal (runChecks n cells word)) (saysYes n cells word) ρ) (some-iff-failing (runChecks n cells word) ρ))
+
+  pub run-answered : {t : TruthAnswer} → RunOutcome n cells word t → Passed (runChecks n cells word) → t ≡ truthOf (saysYes n cells word)
+  unfolding ran
+  run-answered out p = rw (out, none-iff-passed (runChecks n cells word) .1 p)
+
+-- spelling: 4, then 10, then 9
+abbrev pub spellChecks : ℕ → ℕ → Word → List Check
+spellChecks n variable word =
+    check 4 0 (variablesFit n) ∷ check 4 0 (leb 1 variable && leb variable n) ∷ check 10 0 (lettersFit n word) ∷ check 9 0 (leb (length word) mostSpelled) ∷ []
+
+value-or : (o : Option Refusal) (v : ℕ) (ρ : Refusal) → (valueOr o v ≡ SpellAnswer.Refused ρ) ↔ (o ≡ some ρ)
+value-or none v ρ = (λ e. let z : _≡_ {A = ℕ} 0 1 = cc in absurd (omega arith), λ e. let z : _≡_ {A = ℕ} 0 1 = cc in absurd (omega arith))
+value-or (some σ) v ρ = (λ e. cc, λ e. cc)
+
+module _ (n variable : ℕ) (word : Word) where
+  pub spell-refused : {t : SpellAnswer} → SpellOutcome n variable word t → (ρ : Refusal) → (t ≡ SpellAnswer.Refused ρ) ↔ FirstFailing (spellChecks n variable word) ρ
+  unfolding spelt
+  spell-refused out ρ =
+      rw out (Iff·trans (value-or (firstRefusal (spellChecks n variable word)) (value word (variable - 1)) ρ) (some-iff-failing (spellChecks n variable word) ρ))
+
+  pub spell-answered : {t : SpellAnswer} → SpellOutcome n variable word t → Passed (spellChecks n variable word) → t ≡ SpellAnswer.Value (value word (variable - 1))
+  unfolding spelt
+  spell-answered out p = rw (out, none-iff-passed (spellChecks n variable word) .1 p)
+
+-- writing: the checks on the held question, then 8 where the bytes are longer than the buffer
+pub record TooLong (q : Question) (buffer : List ℕ) (ρ : Refusal) : Type 0 where
+  pub walk : Walk
+  pub accepted : written q ≡ ended walk
+  pub long : length buffer < length (walk .bytes)
+  pub told : ρ ≡ refusal 8 0
+
+module _ (q : Question) (buffer : List ℕ) where
+  wrote-refused-iff : (ρ : Refusal) → (wrote q buffer .answer ≡ WriteAnswer.Refused ρ) ↔ (RefusedAt q ρ ⊎ TooLong q buffer ρ)
+  unfolding wrote
+  wrote-refused-iff ρ = (said (written q) refl, ⊎-elim (λ s. ap (λ (p : Progress Walk Walk). wroteOf p buffer .answer) (written-stopped-iff q ρ .1 s)) long)
+    where
+      fit : (w : Walk) → written q ≡ ended w → (b : Bool) → leb (length (w .bytes)) (length buffer) ≡ b → fitted b (w .bytes) buffer .answer ≡ WriteAnswer.Refused ρ → TooLong q buffer ρ
+      fit w x true d e = let z : _≡_ {A = ℕ} 0 1 = cc in absurd (omega arith)
+      fit w x false d e = record { walk = w; accepted = x; long = nleb→lt (length (w .bytes)) (length buffer) (rw d tt); told = cc }
+
+      said : (p : Progress Walk Walk) → written q ≡ p → wroteOf p buffer .answer ≡ WriteAnswer.Refused ρ → RefusedAt q ρ ⊎ TooLong q buffer ρ
+      said (stopped σ) x e = let s : σ ≡ ρ = cc in inl (written-stopped-iff q ρ .0 (x ∙ ap stopped s))
+      said (going w) x e = absurd (never-half-written q w x)
+      said (ended w) x e = inr (fit w x (leb (length (w .bytes)) (length buffer)) refl e)
+
+      long : TooLong q buffer ρ → wroteOf (written q) buffer .answer ≡ WriteAnswer.Refused ρ
+      long t =
+          let b : leb (length (t .walk .bytes)) (length buffer) ≡ false =
+          is-false (leb (length (t .walk .bytes)) (length buffer))
+          (not-T (leb (length (t .walk .bytes)) (length buffer)) (λ h. omega (arith, t .long, leb→le (length (t .walk .bytes)) (length buffer) h))) in
+          rw (t .accepted, b, t .told)
+
+  pub write-refused : {o : Wrote} → WriteOutcome q buffer o → (ρ : Refusal) → (o .answer ≡ WriteAnswer.Refused ρ) ↔ (RefusedAt q ρ ⊎ TooLong q buffer ρ)
+  write-refused out ρ = rw (out .answer) (wrote-refused-iff ρ)
+
+  -- what breaks none is written
+  pub write-written : {o : Wrote} → WriteOutcome q buffer o → ((ρ : Refusal) → ¬ (RefusedAt q ρ ⊎ TooLong q buffer ρ)) → (count : ℕ) × (o .answer ≡ WriteAnswer.Written count)
+  write-written {o} out n = go (o .answer) refl
+    where
+      go : (a : WriteAnswer) → o .answer ≡ a → (count : ℕ) × (o .answer ≡ WriteAnswer.Written count)
+      go (WriteAnswer.Written count) e = (count, e)
+      go (WriteAnswer.Refused ρ) e = absurd (n ρ (write-refused out ρ .0 e))
+
+-- ---- "A refused question changes no lent cell"
+
+pub decide-unchanged : (bytes : List ℕ) (keys : List ℤ) (path word : List ℕ) {o : Decided} → DecideOutcome bytes keys path word o → (ρ : Refusal) → o .answer ≡ DecideAnswer.Refused ρ
+    → o ≡ record { answer = DecideAnswer.Refused ρ; keys = keys; path = path; word = word }
+decide-unchanged bytes keys path word out ρ e =
+    decide-is bytes keys path word out ∙ deciding.refused-unchanged bytes keys path word ρ (decided-refused bytes keys path word ρ .0 (sym (out .answer) ∙ e))
+
+pub build-unchanged : (bytes : List ℕ) (keys : List ℤ) (table : List ℕ) {o : Built} → BuildOutcome bytes keys table o → (ρ : Refusal) → o .answer ≡ BuildAnswer.Refused ρ
+    → o ≡ record { answer = BuildAnswer.Refused ρ; keys = keys; table = table }
+build-unchanged bytes keys table out ρ e =
+    build-is bytes keys table out ∙ building.refused-unchanged bytes keys table ρ (built-refused bytes keys table ρ .0 (sym (out .answer) ∙ e))
+
+pub write-unchanged : (q : Question) (buffer : List ℕ) {o : Wrote} → WriteOutcome q buffer o → (ρ : Refusal) → o .answer ≡ WriteAnswer.Refused ρ → o .buffer ≡ buffer
+write-unchanged q buffer out ρ e = out .buffer ∙ wrote-refused q buffer ρ (sym (out .answer) ∙ e)
+
+-- ---- "for every other refusal 01 fixes what is left" (judging, running and spelling are lent nothing that they could write)
+
+-- the first rows of the key and path areas are filled: the state that each row's word leads to, and the state and letter from which it
+-- was numbered; the cells beyond are as they were
+pub record RowsFilled (q : Question) (r rows : ℕ) (keys keys₁ : List ℤ) (path path₁ : List ℕ) : Type 0 where
+  pub keys-after : Filled rows (atomCount q) (keyCell q r) keys keys₁
+  pub path-after : Filled rows 2 (pathCell q r) path path₁
+
+module _ (bytes : List ℕ) (keys : List ℤ) (path word : List ℕ) (q : Question) (accepted : AcceptedAs bytes q) {o : Decided} (out : DecideOutcome bytes keys path word o) where
+  -- rows of every state counted are filled, whatever the answer
+  pub decide-rows : RowsFilled q (decideRoom q keys path) (statesTold (o .answer)) keys (o .keys) path (o .path)
+  decide-rows = rw (decide-is bytes keys path word out)
+      (record { keys-after = decided-keys bytes keys path word q accepted; path-after = decided-path bytes keys path word q accepted })
+
+  -- 7: R as the states, rows 0 to R - 1 filled, the word unchanged
+  pub decide-no-room-left : (states : ℕ) → o .answer ≡ DecideAnswer.NoRoom states
+      → (states ≡ decideRoom q keys path) × RowsFilled q (decideRoom q keys path) states keys (o .keys) path (o .path) × (o .word ≡ word)
+  decide-no-room-left states e =
+      let x = sym (out .answer) ∙ e in (
+        deciding.says-no-room bytes keys path word q accepted states .0 x .states-are,
+        rw e at decide-rows,
+        out .word ∙ deciding.word-kept bytes keys path word q accepted (λ s k y. let z : _≡_ {A = ℕ} 0 1 = cc in omega arith),
+      )
+
+  -- 8: states w + 1 and rows as for found, the word unchanged
+  pub decide-short-left : (states letters : ℕ) → o .answer ≡ DecideAnswer.Short states letters
+      → deciding.RowFound q (decideRoom q keys path) states letters × RowsFilled q (decideRoom q keys path) states keys (o .keys) path (o .path) × (o .word ≡ word)
+  decide-short-left states letters e =
+      let x = sym (out .answer) ∙ e in (
+        deciding.says-short bytes keys path word q accepted states letters .0 x .0,
+        rw e at decide-rows,
+        out .word ∙ deciding.word-kept bytes keys path word q accepted (λ s k y. let z : _≡_ {A = ℕ} 0 1 = cc in omega arith),
+      )
+
+module _ (bytes : List ℕ) (keys : List ℤ) (table : List ℕ) (q : Question) (accepted : AcceptedAs bytes q) {o : Built} (out : BuildOutcome bytes keys table o) where
+  pub build-rows : Filled (builtTold (o .answer)) (atomCount q) (keyCell q (buildRoom q keys table)) keys (o .keys)
+  build-rows = rw (build-is bytes keys table out) (built-keys bytes keys table q accepted)
+
+  -- 7: R as the states, key rows 0 to R - 1 filled, the table unchanged
+  pub build-no-room-left : (states : ℕ) → o .answer ≡ BuildAnswer.NoRoom states
+      → (states ≡ buildRoom q keys table) × Filled states (atomCount q) (keyCell q (buildRoom q keys table)) keys (o .keys) × (o .table ≡ table)
+  build-no-room-left states e =
+      let x = sym (out .answer) ∙ e in
+      (building.says-no-room bytes keys table q accepted states .0 x .0, rw e at build-rows, out .table ∙ building.table-kept bytes keys table q accepted states x)
+
+-- ---- every lent buffer keeps its length
+
+pub decide-lengths : (bytes : List ℕ) (keys : List ℤ) (path word : List ℕ) {o : Decided} → DecideOutcome bytes keys path word o
+    → (length (o .keys) ≡ length keys) × (length (o .path) ≡ length path) × (length (o .word) ≡ length word)
+decide-lengths bytes keys path word out =
+    rw (decide-is bytes keys path word out) (decided-keys-length bytes keys path word, decided-path-length bytes keys path word, decided-word-length bytes keys path word)
+
+pub build-lengths : (bytes : List ℕ) (keys : List ℤ) (table : List ℕ) {o : Built} → BuildOutcome bytes keys table o
+    → (length (o .keys) ≡ length keys) × (length (o .table) ≡ length table)
+build-lengths bytes keys table out = rw (build-is bytes keys table out) (built-keys-length bytes keys table, built-table-length bytes keys table)
+
+pub write-length : (q : Question) (buffer : List ℕ) {o : Wrote} → WriteOutcome q buffer o → length (o .buffer) ≡ length buffer
+write-length q buffer out = rw (write-is q buffer out) (wrote-length q buffer)
