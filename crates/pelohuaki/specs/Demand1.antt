@@ -131,7 +131,7 @@ pub record OtherValues (bytes values : List ℕ) (ρ : Refusal) : Type 0 where
   pub others : ¬ Taken question values
   pub told : ρ ≡ refusal 9 0
 
-truth-not-refused : (b : Bool) (ρ : Refusal) → truthOf b ≢ TruthAnswer.Refused ρ
+pub truth-not-refused : (b : Bool) (ρ : Refusal) → truthOf b ≢ TruthAnswer.Refused ρ
 truth-not-refused true ρ e = let z : _≡_ {A = ℕ} 0 1 = cc in omega arith
 truth-not-refused false ρ e = let z : _≡_ {A = ℕ} 0 1 = cc in omega arith
 

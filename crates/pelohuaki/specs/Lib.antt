@@ -2,3 +2,5 @@
 pub mod Calls
 pub mod Once
 pub mod Demand1
+pub mod Demand2
+pub mod Demand3
