@@ -7,12 +7,9 @@ use Rattle.scope.specs.declared.Question.{Question}
 use Rattle.scope.specs.declared.Held.{Held}
 use Rattle.scope.specs.declared.RecordAnswer.{RecordAnswer}
 use Rattle.scope.specs.declared.TruthAnswer.{TruthAnswer}
-use Rattle.scope.specs.declared.DecideAnswer.{DecideAnswer}
-use Rattle.scope.specs.declared.BuildAnswer.{BuildAnswer}
-use Rattle.scope.specs.declared.WriteAnswer.{WriteAnswer}
 use Rattle.scope.specs.declared.SpellAnswer.{SpellAnswer}
 use Rattle.scope.specs.Wire.{recordAt, readFrom, readHeld}
-use Rattle.scope.specs.Writing.{Wrote, wrote}
+use Rattle.scope.specs.Writing.{Wrote}
 use Rattle.scope.specs.Words.{Word, spelt}
 use Rattle.scope.specs.Running.{ran}
 use Rattle.scope.specs.Judging.{judged}
@@ -21,21 +18,9 @@ use Rattle.scope.specs.Building.{Built, built}
 use Rattle.wire.specs.declared.ReadPart.{ReadPart}
 use Rattle.wire.specs.Steps.{partOf}
 use Rattle.wire.specs.Answers.{partRead}
-
-pub record Writes (q : Question) (before : List ℕ) (r : WriteAnswer) (after : List ℕ) : Type 0 where
-  pub answer : r ≡ wrote q before .answer
-  pub buffer : after ≡ wrote q before .buffer
-
-pub record Decides (d : Decided) (answer₁ : DecideAnswer) (keys₁ : List ℤ) (path₁ word₁ : List ℕ) : Type 0 where
-  pub answer : answer₁ ≡ d .answer
-  pub keys : keys₁ ≡ d .keys
-  pub path : path₁ ≡ d .path
-  pub word : word₁ ≡ d .word
-
-pub record Builds (b : Built) (answer₁ : BuildAnswer) (keys₁ : List ℤ) (table₁ : List ℕ) : Type 0 where
-  pub answer : answer₁ ≡ b .answer
-  pub keys : keys₁ ≡ b .keys
-  pub table : table₁ ≡ b .table
+use Rattle.wire.specs.Writes.{Writes}
+use Rattle.decide.specs.Decides.{Decides}
+use Rattle.build.specs.Builds.{Builds}
 
 -- ---- calls that lend nothing to be written
 

@@ -1,20 +1,24 @@
 -- Demand 3, sentence by sentence, of any outcome that the contracts allow.
-use mathlib.Core.Path.{_≡_, refl, sym, ap, _∙_}
+use mathlib.Core.Path.{_≡_, sym, ap, _∙_}
 use mathlib.Core.Logic.{_↔_, _≢_}
 use mathlib.Core.Bool.{true}
 use mathlib.Core.List.{List}
-use Prim.Native.Nat.{ℕ, _*_, _≤_}
-use lib.ListN.{take}
+use Prim.Native.Nat.{ℕ, _*_, _≤_, _<_}
+use native.Mathlib.Nat.{le-div-iff-mul-le}
+use native.Mathlib.Omega.{arith}
+use lib.ListN.{length, take}
 use lib.IntN.{ℤ}
 use Rattle.scope.specs.declared.Question.{Question}
 use Rattle.scope.specs.declared.Refusal.{Refusal}
 use Rattle.scope.specs.declared.TruthAnswer.{TruthAnswer}
 use Rattle.scope.specs.declared.BuildAnswer.{BuildAnswer}
+use Rattle.scope.specs.Sizes.{mostStates}
+use Rattle.scope.specs.Question.{atomCount}
 use Rattle.scope.specs.Words.{Word, letters, spelled, Over}
 use Rattle.scope.specs.States.{satisfied}
 use Rattle.scope.specs.Bound.{bound}
 use Rattle.scope.specs.Numbering.{machineOf}
-use Rattle.scope.specs.Building.{tableWidth, buildRoom, Built, built}
+use Rattle.scope.specs.Building.{tableWidth, buildRoom, Built}
 use Rattle.scope.specs.Running.{truthOf, ran}
 use Rattle.theory.specs.Spelling.{wordOfValues}
 use Rattle.theory.specs.Reachable.{AtMost}
@@ -23,10 +27,20 @@ use Rattle.theory.specs.Built as building
 use Rattle.theory.specs.Agreement.{truth-yes, Taken, judged-built}
 use Rattle.pelohuaki.specs.Calls.{JudgeOutcome, RunOutcome, BuildOutcome}
 use Rattle.pelohuaki.specs.Demand1.{AcceptedAs, truth-not-refused}
+use Rattle.pelohuaki.specs.Demand2.{some-atom}
 
 -- the filled rows alone, which are handed on with the question's n
 abbrev pub tableIn : Question → ℕ → List ℕ → List ℕ
 tableIn q states table₁ = take (states * tableWidth (q .n)) table₁
+
+-- the rows lent, by the cells lent
+pub rows-lent : (bytes : List ℕ) (q : Question) → AcceptedAs bytes q → (rows : ℕ) → rows ≤ mostStates → (keys : List ℤ) (table : List ℕ)
+    → rows * atomCount q ≤ length keys → rows * tableWidth (q .n) ≤ length table → rows ≤ buildRoom q keys table
+unfolding buildRoom
+rows-lent bytes q accepted rows few keys table k t =
+    let m : 0 < atomCount q = some-atom bytes q accepted in
+    let w : 0 < tableWidth (q .n) = omega arith in
+    omega (arith, le-div-iff-mul-le m .1 k, le-div-iff-mul-le w .1 t, few)
 
 -- building bytes that are accepted as q, where R = buildRoom q keys table rows are lent
 module _ (bytes : List ℕ) (keys : List ℤ) (table : List ℕ) (q : Question) (accepted : AcceptedAs bytes q) {o : Built} (out : BuildOutcome bytes keys table o) where
@@ -45,6 +59,10 @@ module _ (bytes : List ℕ) (keys : List ℤ) (table : List ℕ) (q : Question) 
   -- "rows equal to 01's bound, where that is at most 65,535, are always enough." (R is never more than 65,535)
   pub bound-builds : bound q ≤ buildRoom q keys table → (states : ℕ) × (o .answer ≡ BuildAnswer.Built states)
   bound-builds h = rw (out .answer) (building.bound-builds bytes keys table q accepted h)
+
+  -- in cells
+  pub bound-cells : bound q ≤ mostStates → bound q * atomCount q ≤ length keys → bound q * tableWidth (q .n) ≤ length table → (states : ℕ) × (o .answer ≡ BuildAnswer.Built states)
+  bound-cells few k t = bound-builds (rows-lent bytes q accepted (bound q) few keys table k t)
 
   -- "The table alone, run without the question on any word of its letters, short or long, says yes exactly if the naturals that the word
   -- spells satisfy the question."

@@ -1,5 +1,12 @@
 // The public calls and their types, under one roof. What their contracts promise together is in specs/.
+pub use build::build;
+pub use decide::decide;
 pub use judge::judge;
+pub use place::Place;
+pub use place::Step;
+pub use place::next_record;
+pub use place::open;
+pub use place::take_record;
 pub use scope::BuildAnswer;
 pub use scope::DecideAnswer;
 pub use scope::Held;
@@ -16,5 +23,6 @@ pub use wire::body;
 pub use wire::read;
 pub use wire::read_from;
 pub use wire::record_at;
+pub use wire::write;
 pub use words::run;
 pub use words::spell;
