@@ -1,13 +1,13 @@
--- Demand 1, sentence by sentence, of any outcome that the contracts allow.
+-- Demand 1, sentence by sentence, of any outcome that the contracts allow: what is refused, and by which number. What is left is in Left.
 --
 -- "Any question, table, word or value lent to it gets an answer, and nothing is assumed to have been looked at before." No call has a
 -- `requires`, and each is proved to end. What follows has no hypothesis on what is lent, except where it says that bytes are accepted.
-use mathlib.Core.Path.{_≡_, refl, sym, ap, _∙_}
+use mathlib.Core.Path.{_≡_, refl, sym, ap, _∙_, subst}
 use mathlib.Core.Logic.{_↔_, _⊎_, inl, inr, ⊎-elim, _≢_, Iff·trans}
 use mathlib.Core.Bool.{Bool, true, false, _&&_}
 use mathlib.Core.Option.{Option, none, some}
-use mathlib.Core.List.{List, [], _∷_}
-use Prim.Native.Nat.{ℕ, _-_, _<_}
+use mathlib.Core.List.{List, [], _∷_, _++_}
+use Prim.Native.Nat.{ℕ, _-_, _≤_, _<_}
 use native.Mathlib.Omega.{arith}
 use lib.ListN.{length}
 use lib.Dec.{leb, leb→le, nleb→lt, not-T}
@@ -16,6 +16,7 @@ use lib.IntN.{ℤ}
 use Rattle.scope.specs.declared.Question.{Question}
 use Rattle.scope.specs.declared.Refusal.{Refusal}
 use Rattle.scope.specs.declared.Held.{Held}
+use Rattle.scope.specs.declared.RecordAnswer.{RecordAnswer}
 use Rattle.scope.specs.declared.ReadAnswer.{ReadAnswer}
 use Rattle.scope.specs.declared.WriteAnswer.{WriteAnswer}
 use Rattle.scope.specs.declared.TruthAnswer.{TruthAnswer}
@@ -23,28 +24,26 @@ use Rattle.scope.specs.declared.DecideAnswer.{DecideAnswer}
 use Rattle.scope.specs.declared.BuildAnswer.{BuildAnswer}
 use Rattle.scope.specs.declared.SpellAnswer.{SpellAnswer}
 use Rattle.scope.specs.Sizes.{mostSpelled, variablesFit}
-use Rattle.scope.specs.Question.{atomCount}
 use Rattle.scope.specs.Refusals.{Check, check, refusal, firstRefusal, Progress, stopped, going, ended}
-use Rattle.scope.specs.Wire.{readHeld}
+use Rattle.scope.specs.Wire.{headerThere, bodyThere, recordOr, recordAt, Reading, Ended, readFrom, readHeld}
 use Rattle.scope.specs.Writing.{Walk, written, Wrote, fitted, wroteOf, wrote}
 use Rattle.scope.specs.Words.{Word, lettersFit, value, valueOr, spelt}
 use Rattle.scope.specs.States.{satisfied}
 use Rattle.scope.specs.Running.{tableFits, saysYes, truthOf, truthOr, ran}
 use Rattle.scope.specs.Judging.{judged}
-use Rattle.scope.specs.Deciding.{decideRoom, Decided, decided}
-use Rattle.scope.specs.Building.{buildRoom, Built, built}
+use Rattle.scope.specs.Deciding.{Decided, decided}
+use Rattle.scope.specs.Building.{Built, built}
 use Rattle.theory.specs.Checks.{Passed, none-iff-passed, FirstFailing, some-iff-failing}
-use Rattle.theory.specs.Stopped.{StoppedAt, LeftBytes}
+use Rattle.theory.specs.ReadingSteps.{headChecks, nodeChecks, endChecks}
+use Rattle.theory.specs.Stopped.{StoppedAt, at-head, at-node, at-end, stopped-iff, never-going, LeftBytes}
 use Rattle.theory.specs.Answers.{refused-iff}
 use Rattle.theory.specs.WritingStopped.{RefusedAt, written-stopped-iff, never-half-written}
 use Rattle.theory.specs.Decided as deciding
 use Rattle.theory.specs.Built as building
-use Rattle.theory.specs.Areas.{statesTold, builtTold, Filled, keyCell, pathCell, decided-keys, decided-path, built-keys}
-use Rattle.theory.specs.Lengths.{decided-keys-length, decided-path-length, decided-word-length, built-keys-length, built-table-length, wrote-length}
 use Rattle.theory.specs.Agreement.{Taken, judged-accepted, judged-truth, judged-refused}
-use Rattle.theory.specs.Buffers.{wrote-refused}
-use Rattle.pelohuaki.specs.Calls.{ReadOutcome, JudgeOutcome, RunOutcome, SpellOutcome, WriteOutcome, DecideOutcome, BuildOutcome}
-use Rattle.pelohuaki.specs.Once.{write-is, decide-is, build-is}
+use Rattle.wire.specs.declared.ReadPart.{ReadPart}
+use Rattle.wire.specs.Answers.{partRead}
+use Rattle.pelohuaki.specs.Calls.{RecordOutcome, ReadOutcome, PartOutcome, JudgeOutcome, RunOutcome, SpellOutcome, WriteOutcome, DecideOutcome, BuildOutcome}
 
 -- ---- bytes that break a rule
 
@@ -88,9 +87,89 @@ module _ (bytes : List ℕ) where
           go (accepted-as q e) = ap (λ (h : Held). h .answer) e
           go (refused-by ρ e) = absurd (n ρ (refused-iff bytes ρ .0 e))
 
+  -- so the bytes that later theorems take as accepted are those that break no rule
+  pub accepted-exactly : ((q : Question) × AcceptedAs bytes q) ↔ ((ρ : Refusal) → ¬ Breaks bytes ρ)
+  accepted-exactly = (λ (q, e). read-accepted refl .0 (ap (λ (h : Held). h .answer) e), back)
+    where
+      back : ((ρ : Refusal) → ¬ Breaks bytes ρ) → (q : Question) × AcceptedAs bytes q
+      back n = go (either-way bytes)
+        where
+          go : Read bytes → (q : Question) × AcceptedAs bytes q
+          go (accepted-as q e) = (q, e)
+          go (refused-by ρ e) = absurd (n ρ (refused-iff bytes ρ .0 e))
+
+-- a bare step refuses only by 1, at the record
+abbrev pub recordChecks : List ℕ → ℕ → List Check
+recordChecks bytes at = check 1 at (headerThere bytes at) ∷ check 1 at (bodyThere bytes at) ∷ []
+
+module _ (bytes : List ℕ) (at : ℕ) where
+  pub record-refused : {r : RecordAnswer} → RecordOutcome bytes at r → (ρ : Refusal) → (r ≡ RecordAnswer.Refused ρ) ↔ FirstFailing (recordChecks bytes at) ρ
+  unfolding recordAt
+  record-refused out ρ = rw out (Iff·trans (record-or (firstRefusal (recordChecks bytes at))) (some-iff-failing (recordChecks bytes at) ρ))
+    where
+      record-or : (o : Option Refusal) → (recordOr o bytes at ≡ RecordAnswer.Refused ρ) ↔ (o ≡ some ρ)
+      record-or none = (λ e. let z : _≡_ {A = ℕ} 0 1 = cc in absurd (omega arith), λ e. let z : _≡_ {A = ℕ} 0 1 = cc in absurd (omega arith))
+      record-or (some σ) = (λ e. cc, λ e. cc)
+
+  pub record-cut : {r : RecordAnswer} → RecordOutcome bytes at r → (ρ : Refusal) → r ≡ RecordAnswer.Refused ρ → ρ ≡ refusal 1 at
+  unfolding recordAt firstRefusal
+  record-cut out ρ e = go (headerThere bytes at) (bodyThere bytes at) (sym out ∙ e)
+    where
+      go : (x y : Bool) → recordOr (firstRefusal (check 1 at x ∷ check 1 at y ∷ [])) bytes at ≡ RecordAnswer.Refused ρ → ρ ≡ refusal 1 at
+      go true true e = let z : _≡_ {A = ℕ} 0 1 = cc in absurd (omega arith)
+      go true false e = cc
+      go false y e = cc
+
+  -- reading from a place on
+  pub part-refused : {r : ReadPart} → PartOutcome bytes at r → (ρ : Refusal) → (r .answer ≡ ReadAnswer.Refused ρ) ↔ StoppedAt bytes at ρ
+  part-refused out ρ = rw out (said (readFrom bytes at) refl, λ s. ap (λ (p : Progress Reading Ended). partRead p .answer) (stopped-iff bytes at ρ .1 s))
+    where
+      said : (p : Progress Reading Ended) → readFrom bytes at ≡ p → partRead p .answer ≡ ReadAnswer.Refused ρ → StoppedAt bytes at ρ
+      said (stopped σ) x e = let s : σ ≡ ρ = cc in stopped-iff bytes at ρ .0 (x ∙ ap stopped s)
+      said (going s) x e = absurd (never-going bytes at s x)
+      said (ended d) x e = let z : _≡_ {A = ℕ} 0 1 = cc in absurd (omega arith)
+
+-- the number is one from 1 to 6
+abbrev Numbers : List Check → Type 0
+Numbers [] = Unit {0}
+Numbers (c ∷ cs) = ((1 ≤ c .number) × (c .number ≤ 6)) × Numbers cs
+
+numbers-at : (before : List Check) (c : Check) (after : List Check) → Numbers (before ++ (c ∷ after)) → (1 ≤ c .number) × (c .number ≤ 6)
+numbers-at [] c after n = n .0
+numbers-at (b ∷ before) c after n = numbers-at before c after (n .1)
+
+failing-number : (cs : List Check) (ρ : Refusal) → Numbers cs → FirstFailing cs ρ → (1 ≤ ρ .number) × (ρ .number ≤ 6)
+failing-number cs ρ n f = rw (f .told) (numbers-at (f .before) (f .failing) (f .after) (subst Numbers (f .order) n))
+
+pub breaks-number : (bytes : List ℕ) (ρ : Refusal) → Breaks bytes ρ → (1 ≤ ρ .number) × (ρ .number ≤ 6)
+breaks-number bytes ρ = ⊎-elim stops (λ l. rw (l .told) six)
+  where
+    one : (1 ≤ 1) × (1 ≤ 6)
+    one = (omega arith, omega arith)
+
+    two : (1 ≤ 2) × (2 ≤ 6)
+    two = (omega arith, omega arith)
+
+    three : (1 ≤ 3) × (3 ≤ 6)
+    three = (omega arith, omega arith)
+
+    four : (1 ≤ 4) × (4 ≤ 6)
+    four = (omega arith, omega arith)
+
+    five : (1 ≤ 5) × (5 ≤ 6)
+    five = (omega arith, omega arith)
+
+    six : (1 ≤ 6) × (6 ≤ 6)
+    six = (omega arith, omega arith)
+
+    stops : StoppedAt bytes 0 ρ → (1 ≤ ρ .number) × (ρ .number ≤ 6)
+    stops (at-head f) = failing-number (headChecks bytes 0) ρ (one, (two, (three, (one, (four, tt))))) f
+    stops (at-node s depth due h d f) = failing-number (nodeChecks bytes depth s) ρ (one, (two, (three, (one, (five, (five, (five, (four, tt)))))))) f
+    stops (at-end s h d f) = failing-number (endChecks bytes (s .place)) ρ (one, (two, (three, tt))) f
+
 -- deciding
 module _ (bytes : List ℕ) (keys : List ℤ) (path word : List ℕ) where
-  decided-refused : (ρ : Refusal) → (decided bytes keys path word .answer ≡ DecideAnswer.Refused ρ) ↔ (readHeld bytes .answer ≡ ReadAnswer.Refused ρ)
+  pub decided-refused : (ρ : Refusal) → (decided bytes keys path word .answer ≡ DecideAnswer.Refused ρ) ↔ (readHeld bytes .answer ≡ ReadAnswer.Refused ρ)
   decided-refused ρ = (said (either-way bytes), back)
     where
       said : Read bytes → decided bytes keys path word .answer ≡ DecideAnswer.Refused ρ → readHeld bytes .answer ≡ ReadAnswer.Refused ρ
@@ -108,7 +187,7 @@ module _ (bytes : List ℕ) (keys : List ℤ) (path word : List ℕ) where
 
 -- building
 module _ (bytes : List ℕ) (keys : List ℤ) (table : List ℕ) where
-  built-refused : (ρ : Refusal) → (built bytes keys table .answer ≡ BuildAnswer.Refused ρ) ↔ (readHeld bytes .answer ≡ ReadAnswer.Refused ρ)
+  pub built-refused : (ρ : Refusal) → (built bytes keys table .answer ≡ BuildAnswer.Refused ρ) ↔ (readHeld bytes .answer ≡ ReadAnswer.Refused ρ)
   built-refused ρ = (said (either-way bytes), back)
     where
       said : Read bytes → built bytes keys table .answer ≡ BuildAnswer.Refused ρ → readHeld bytes .answer ≡ ReadAnswer.Refused ρ
@@ -232,77 +311,3 @@ module _ (q : Question) (buffer : List ℕ) where
       go : (a : WriteAnswer) → o .answer ≡ a → (count : ℕ) × (o .answer ≡ WriteAnswer.Written count)
       go (WriteAnswer.Written count) e = (count, e)
       go (WriteAnswer.Refused ρ) e = absurd (n ρ (write-refused out ρ .0 e))
-
--- ---- "A refused question changes no lent cell"
-
-pub decide-unchanged : (bytes : List ℕ) (keys : List ℤ) (path word : List ℕ) {o : Decided} → DecideOutcome bytes keys path word o → (ρ : Refusal) → o .answer ≡ DecideAnswer.Refused ρ
-    → o ≡ record { answer = DecideAnswer.Refused ρ; keys = keys; path = path; word = word }
-decide-unchanged bytes keys path word out ρ e =
-    decide-is bytes keys path word out ∙ deciding.refused-unchanged bytes keys path word ρ (decided-refused bytes keys path word ρ .0 (sym (out .answer) ∙ e))
-
-pub build-unchanged : (bytes : List ℕ) (keys : List ℤ) (table : List ℕ) {o : Built} → BuildOutcome bytes keys table o → (ρ : Refusal) → o .answer ≡ BuildAnswer.Refused ρ
-    → o ≡ record { answer = BuildAnswer.Refused ρ; keys = keys; table = table }
-build-unchanged bytes keys table out ρ e =
-    build-is bytes keys table out ∙ building.refused-unchanged bytes keys table ρ (built-refused bytes keys table ρ .0 (sym (out .answer) ∙ e))
-
-pub write-unchanged : (q : Question) (buffer : List ℕ) {o : Wrote} → WriteOutcome q buffer o → (ρ : Refusal) → o .answer ≡ WriteAnswer.Refused ρ → o .buffer ≡ buffer
-write-unchanged q buffer out ρ e = out .buffer ∙ wrote-refused q buffer ρ (sym (out .answer) ∙ e)
-
--- ---- "for every other refusal 01 fixes what is left" (judging, running and spelling are lent nothing that they could write)
-
--- the first rows of the key and path areas are filled: the state that each row's word leads to, and the state and letter from which it
--- was numbered; the cells beyond are as they were
-pub record RowsFilled (q : Question) (r rows : ℕ) (keys keys₁ : List ℤ) (path path₁ : List ℕ) : Type 0 where
-  pub keys-after : Filled rows (atomCount q) (keyCell q r) keys keys₁
-  pub path-after : Filled rows 2 (pathCell q r) path path₁
-
-module _ (bytes : List ℕ) (keys : List ℤ) (path word : List ℕ) (q : Question) (accepted : AcceptedAs bytes q) {o : Decided} (out : DecideOutcome bytes keys path word o) where
-  -- rows of every state counted are filled, whatever the answer
-  pub decide-rows : RowsFilled q (decideRoom q keys path) (statesTold (o .answer)) keys (o .keys) path (o .path)
-  decide-rows = rw (decide-is bytes keys path word out)
-      (record { keys-after = decided-keys bytes keys path word q accepted; path-after = decided-path bytes keys path word q accepted })
-
-  -- 7: R as the states, rows 0 to R - 1 filled, the word unchanged
-  pub decide-no-room-left : (states : ℕ) → o .answer ≡ DecideAnswer.NoRoom states
-      → (states ≡ decideRoom q keys path) × RowsFilled q (decideRoom q keys path) states keys (o .keys) path (o .path) × (o .word ≡ word)
-  decide-no-room-left states e =
-      let x = sym (out .answer) ∙ e in (
-        deciding.says-no-room bytes keys path word q accepted states .0 x .states-are,
-        rw e at decide-rows,
-        out .word ∙ deciding.word-kept bytes keys path word q accepted (λ s k y. let z : _≡_ {A = ℕ} 0 1 = cc in omega arith),
-      )
-
-  -- 8: states w + 1 and rows as for found, the word unchanged
-  pub decide-short-left : (states letters : ℕ) → o .answer ≡ DecideAnswer.Short states letters
-      → deciding.RowFound q (decideRoom q keys path) states letters × RowsFilled q (decideRoom q keys path) states keys (o .keys) path (o .path) × (o .word ≡ word)
-  decide-short-left states letters e =
-      let x = sym (out .answer) ∙ e in (
-        deciding.says-short bytes keys path word q accepted states letters .0 x .0,
-        rw e at decide-rows,
-        out .word ∙ deciding.word-kept bytes keys path word q accepted (λ s k y. let z : _≡_ {A = ℕ} 0 1 = cc in omega arith),
-      )
-
-module _ (bytes : List ℕ) (keys : List ℤ) (table : List ℕ) (q : Question) (accepted : AcceptedAs bytes q) {o : Built} (out : BuildOutcome bytes keys table o) where
-  pub build-rows : Filled (builtTold (o .answer)) (atomCount q) (keyCell q (buildRoom q keys table)) keys (o .keys)
-  build-rows = rw (build-is bytes keys table out) (built-keys bytes keys table q accepted)
-
-  -- 7: R as the states, key rows 0 to R - 1 filled, the table unchanged
-  pub build-no-room-left : (states : ℕ) → o .answer ≡ BuildAnswer.NoRoom states
-      → (states ≡ buildRoom q keys table) × Filled states (atomCount q) (keyCell q (buildRoom q keys table)) keys (o .keys) × (o .table ≡ table)
-  build-no-room-left states e =
-      let x = sym (out .answer) ∙ e in
-      (building.says-no-room bytes keys table q accepted states .0 x .0, rw e at build-rows, out .table ∙ building.table-kept bytes keys table q accepted states x)
-
--- ---- every lent buffer keeps its length
-
-pub decide-lengths : (bytes : List ℕ) (keys : List ℤ) (path word : List ℕ) {o : Decided} → DecideOutcome bytes keys path word o
-    → (length (o .keys) ≡ length keys) × (length (o .path) ≡ length path) × (length (o .word) ≡ length word)
-decide-lengths bytes keys path word out =
-    rw (decide-is bytes keys path word out) (decided-keys-length bytes keys path word, decided-path-length bytes keys path word, decided-word-length bytes keys path word)
-
-pub build-lengths : (bytes : List ℕ) (keys : List ℤ) (table : List ℕ) {o : Built} → BuildOutcome bytes keys table o
-    → (length (o .keys) ≡ length keys) × (length (o .table) ≡ length table)
-build-lengths bytes keys table out = rw (build-is bytes keys table out) (built-keys-length bytes keys table, built-table-length bytes keys table)
-
-pub write-length : (q : Question) (buffer : List ℕ) {o : Wrote} → WriteOutcome q buffer o → length (o .buffer) ≡ length buffer
-write-length q buffer out = rw (write-is q buffer out) (wrote-length q buffer)

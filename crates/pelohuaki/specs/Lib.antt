@@ -2,6 +2,9 @@
 pub mod Calls
 pub mod Once
 pub mod Demand1
+pub mod Left
 pub mod Demand2
 pub mod Demand3
+pub mod Told
 pub mod Shams
+pub mod Places

@@ -1,5 +1,5 @@
 -- Each contract determines the answer and each lent cell afterwards: any two outcomes that it allows coincide.
-use mathlib.Core.Path.{_≡_, refl, sym, _∙_}
+use mathlib.Core.Path.{_≡_, sym, _∙_}
 use mathlib.Core.List.{List}
 use Prim.Native.Nat.{ℕ}
 use lib.IntN.{ℤ}

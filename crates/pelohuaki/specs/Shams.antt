@@ -1,5 +1,5 @@
 -- The sham builds that document 01 names ("What the contracts must tie down"): none of them meets the contracts.
-use mathlib.Core.Path.{_≡_, refl, sym, ap, _∙_}
+use mathlib.Core.Path.{_≡_, refl, sym, _∙_}
 use mathlib.Core.Logic.{_≢_}
 use mathlib.Core.Bool.{true, false, true≢false}
 use mathlib.Core.List.{List, [], _∷_}
@@ -21,7 +21,7 @@ use Rattle.scope.specs.Running.{ran}
 use Rattle.scope.specs.Outcomes.{running}
 use Rattle.theory.specs.Deciding.{StatesAre, states-unique}
 use Rattle.theory.specs.Decided.{RowFound}
-use Rattle.pelohuaki.specs.Calls.{RunOutcome, DecideOutcome, BuildOutcome}
+use Rattle.pelohuaki.specs.Calls.{DecideOutcome, BuildOutcome}
 use Rattle.pelohuaki.specs.Demand1.{AcceptedAs}
 use Rattle.pelohuaki.specs.Demand2.{found-said, never-said, never-states, no-room-said}
 use Rattle.pelohuaki.specs.Demand3.{tableIn, built-said, table-says}
@@ -34,11 +34,11 @@ Decider = List ℕ → List ℤ → List ℕ → List ℕ → Decided
 abbrev pub Builder : Type 0
 Builder = List ℕ → List ℤ → List ℕ → Built
 
-abbrev pub Decides : Decider → Type 0
-Decides d = (bytes : List ℕ) (keys : List ℤ) (path word : List ℕ) → DecideOutcome bytes keys path word (d bytes keys path word)
+abbrev pub MeetsDecide : Decider → Type 0
+MeetsDecide d = (bytes : List ℕ) (keys : List ℤ) (path word : List ℕ) → DecideOutcome bytes keys path word (d bytes keys path word)
 
-abbrev pub Builds : Builder → Type 0
-Builds b = (bytes : List ℕ) (keys : List ℤ) (table : List ℕ) → BuildOutcome bytes keys table (b bytes keys table)
+abbrev pub MeetsBuild : Builder → Type 0
+MeetsBuild b = (bytes : List ℕ) (keys : List ℤ) (table : List ℕ) → BuildOutcome bytes keys table (b bytes keys table)
 
 -- ---- two questions, by computation
 
@@ -128,7 +128,7 @@ EachBuilt b P =
     (bytes : List ℕ) (keys : List ℤ) (table : List ℕ) (q : Question) → AcceptedAs bytes q → (states : ℕ) → b bytes keys table .answer ≡ BuildAnswer.Built states
     → P q states table (b bytes keys table .table)
 
-module _ (d : Decider) (meets : Decides d) where
+module _ (d : Decider) (meets : MeetsDecide d) where
   nought-found : d notNought twoKeys twoPaths oneLetter .answer ≡ DecideAnswer.Found 2 1
   nought-found = meets notNought twoKeys twoPaths oneLetter .answer ∙ nought-answer
 
@@ -156,7 +156,7 @@ module _ (d : Decider) (meets : Decides d) where
       let z : _≡_ {A = ℕ} 1 9 = cc in
       omega arith
 
-module _ (b : Builder) (meets : Builds b) where
+module _ (b : Builder) (meets : MeetsBuild b) where
   nought-rows : b notNought twoKeys twoRows .answer ≡ BuildAnswer.Built 2
   nought-rows = meets notNought twoKeys twoRows .answer ∙ nought-built
 

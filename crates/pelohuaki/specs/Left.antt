@@ -1,0 +1,98 @@
+-- Demand 1, what is left after a refusal, of any outcome that the contracts allow.
+use mathlib.Core.Path.{_≡_, sym, _∙_}
+use mathlib.Core.List.{List}
+use Prim.Native.Nat.{ℕ}
+use native.Mathlib.Omega.{arith}
+use lib.ListN.{length}
+use lib.IntN.{ℤ}
+use Rattle.scope.specs.declared.Question.{Question}
+use Rattle.scope.specs.declared.Refusal.{Refusal}
+use Rattle.scope.specs.declared.WriteAnswer.{WriteAnswer}
+use Rattle.scope.specs.declared.DecideAnswer.{DecideAnswer}
+use Rattle.scope.specs.declared.BuildAnswer.{BuildAnswer}
+use Rattle.scope.specs.Question.{atomCount}
+use Rattle.scope.specs.Writing.{Wrote}
+use Rattle.scope.specs.Deciding.{decideRoom, Decided}
+use Rattle.scope.specs.Building.{buildRoom, Built}
+use Rattle.theory.specs.Decided as deciding
+use Rattle.theory.specs.Built as building
+use Rattle.theory.specs.Areas.{statesTold, builtTold, Filled, keyCell, pathCell, decided-keys, decided-path, built-keys}
+use Rattle.theory.specs.Lengths.{decided-keys-length, decided-path-length, decided-word-length, built-keys-length, built-table-length, wrote-length}
+use Rattle.theory.specs.Buffers.{wrote-refused}
+use Rattle.pelohuaki.specs.Calls.{WriteOutcome, DecideOutcome, BuildOutcome}
+use Rattle.pelohuaki.specs.Once.{write-is, decide-is, build-is}
+use Rattle.pelohuaki.specs.Demand1.{AcceptedAs, decided-refused, built-refused}
+
+-- ---- "A refused question changes no lent cell"
+
+pub decide-unchanged : (bytes : List ℕ) (keys : List ℤ) (path word : List ℕ) {o : Decided} → DecideOutcome bytes keys path word o → (ρ : Refusal) → o .answer ≡ DecideAnswer.Refused ρ
+    → o ≡ record { answer = DecideAnswer.Refused ρ; keys = keys; path = path; word = word }
+decide-unchanged bytes keys path word out ρ e =
+    decide-is bytes keys path word out ∙ deciding.refused-unchanged bytes keys path word ρ (decided-refused bytes keys path word ρ .0 (sym (out .answer) ∙ e))
+
+pub build-unchanged : (bytes : List ℕ) (keys : List ℤ) (table : List ℕ) {o : Built} → BuildOutcome bytes keys table o → (ρ : Refusal) → o .answer ≡ BuildAnswer.Refused ρ
+    → o ≡ record { answer = BuildAnswer.Refused ρ; keys = keys; table = table }
+build-unchanged bytes keys table out ρ e =
+    build-is bytes keys table out ∙ building.refused-unchanged bytes keys table ρ (built-refused bytes keys table ρ .0 (sym (out .answer) ∙ e))
+
+pub write-unchanged : (q : Question) (buffer : List ℕ) {o : Wrote} → WriteOutcome q buffer o → (ρ : Refusal) → o .answer ≡ WriteAnswer.Refused ρ → o .buffer ≡ buffer
+write-unchanged q buffer out ρ e = out .buffer ∙ wrote-refused q buffer ρ (sym (out .answer) ∙ e)
+
+-- ---- "for every other refusal 01 fixes what is left" (judging, running and spelling are lent nothing that they could write)
+
+-- the first rows of the key and path areas are filled: the state that each row's word leads to, and the state and letter from which it
+-- was numbered; the cells beyond are as they were
+pub record RowsFilled (q : Question) (r rows : ℕ) (keys keys₁ : List ℤ) (path path₁ : List ℕ) : Type 0 where
+  pub keys-after : Filled rows (atomCount q) (keyCell q r) keys keys₁
+  pub path-after : Filled rows 2 (pathCell q r) path path₁
+
+module _ (bytes : List ℕ) (keys : List ℤ) (path word : List ℕ) (q : Question) (accepted : AcceptedAs bytes q) {o : Decided} (out : DecideOutcome bytes keys path word o) where
+  -- rows of every state counted are filled, whatever the answer
+  pub decide-rows : RowsFilled q (decideRoom q keys path) (statesTold (o .answer)) keys (o .keys) path (o .path)
+  decide-rows = rw (decide-is bytes keys path word out)
+      (record { keys-after = decided-keys bytes keys path word q accepted; path-after = decided-path bytes keys path word q accepted })
+
+  -- 7: R as the states, rows 0 to R - 1 filled, the word unchanged
+  pub decide-no-room-left : (states : ℕ) → o .answer ≡ DecideAnswer.NoRoom states
+      → (states ≡ decideRoom q keys path) × RowsFilled q (decideRoom q keys path) states keys (o .keys) path (o .path) × (o .word ≡ word)
+  decide-no-room-left states e =
+      let x = sym (out .answer) ∙ e in (
+        deciding.says-no-room bytes keys path word q accepted states .0 x .states-are,
+        rw e at decide-rows,
+        out .word ∙ deciding.word-kept bytes keys path word q accepted (λ s k y. let z : _≡_ {A = ℕ} 0 1 = cc in omega arith),
+      )
+
+  -- 8: states w + 1 and rows as for found, the word unchanged
+  pub decide-short-left : (states letters : ℕ) → o .answer ≡ DecideAnswer.Short states letters
+      → deciding.RowFound q (decideRoom q keys path) states letters × RowsFilled q (decideRoom q keys path) states keys (o .keys) path (o .path) × (o .word ≡ word)
+  decide-short-left states letters e =
+      let x = sym (out .answer) ∙ e in (
+        deciding.says-short bytes keys path word q accepted states letters .0 x .0,
+        rw e at decide-rows,
+        out .word ∙ deciding.word-kept bytes keys path word q accepted (λ s k y. let z : _≡_ {A = ℕ} 0 1 = cc in omega arith),
+      )
+
+module _ (bytes : List ℕ) (keys : List ℤ) (table : List ℕ) (q : Question) (accepted : AcceptedAs bytes q) {o : Built} (out : BuildOutcome bytes keys table o) where
+  pub build-rows : Filled (builtTold (o .answer)) (atomCount q) (keyCell q (buildRoom q keys table)) keys (o .keys)
+  build-rows = rw (build-is bytes keys table out) (built-keys bytes keys table q accepted)
+
+  -- 7: R as the states, key rows 0 to R - 1 filled, the table unchanged
+  pub build-no-room-left : (states : ℕ) → o .answer ≡ BuildAnswer.NoRoom states
+      → (states ≡ buildRoom q keys table) × Filled states (atomCount q) (keyCell q (buildRoom q keys table)) keys (o .keys) × (o .table ≡ table)
+  build-no-room-left states e =
+      let x = sym (out .answer) ∙ e in
+      (building.says-no-room bytes keys table q accepted states .0 x .0, rw e at build-rows, out .table ∙ building.table-kept bytes keys table q accepted states x)
+
+-- ---- every lent buffer keeps its length
+
+pub decide-lengths : (bytes : List ℕ) (keys : List ℤ) (path word : List ℕ) {o : Decided} → DecideOutcome bytes keys path word o
+    → (length (o .keys) ≡ length keys) × (length (o .path) ≡ length path) × (length (o .word) ≡ length word)
+decide-lengths bytes keys path word out =
+    rw (decide-is bytes keys path word out) (decided-keys-length bytes keys path word, decided-path-length bytes keys path word, decided-word-length bytes keys path word)
+
+pub build-lengths : (bytes : List ℕ) (keys : List ℤ) (table : List ℕ) {o : Built} → BuildOutcome bytes keys table o
+    → (length (o .keys) ≡ length keys) × (length (o .table) ≡ length table)
+build-lengths bytes keys table out = rw (build-is bytes keys table out) (built-keys-length bytes keys table, built-table-length bytes keys table)
+
+pub write-length : (q : Question) (buffer : List ℕ) {o : Wrote} → WriteOutcome q buffer o → length (o .buffer) ≡ length buffer
+write-length q buffer out = rw (write-is q buffer out) (wrote-length q buffer)
