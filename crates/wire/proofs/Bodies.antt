@@ -28,13 +28,13 @@ unfolding numbersAt
 numbers-suc m b at = refl
 
 module _ (b : List ℕ) (n i : ℕ) where
-  pub numbers-next : i < n → numbersAt (n - i) b (4 * i) ≡ numberAt b (4 * i) ∷ numbersAt (n - (i + 1)) b (4 * (i + 1))
+  numbers-next : i < n → numbersAt (n - i) b (4 * i) ≡ numberAt b (4 * i) ∷ numbersAt (n - (i + 1)) b (4 * (i + 1))
   numbers-next h =
       let e : n - i ≡ suc (n - (i + 1)) = omega arith in
       let d : 4 * (i + 1) ≡ 4 * i + 4 = omega arith in
       rw (e, d) (numbers-suc (n - (i + 1)) b (4 * i))
 
-  pub numbers-done : n ≤ i → numbersAt (n - i) b (4 * i) ≡ []
+  numbers-done : n ≤ i → numbersAt (n - i) b (4 * i) ≡ []
   unfolding numbersAt
   numbers-done h = let e : n - i ≡ 0 = omega arith in rw e
 

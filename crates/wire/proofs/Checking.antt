@@ -24,7 +24,7 @@ use Rattle.wire.specs.Steps.{nodeOr}
 use Rattle.wire.specs.Writes.{codeNode, bytesTo, codeCheckList, codeAnswer, walkAt, CodeLeft, coefficientClear, constantClear}
 use Rattle.wire.proofs.Codes.{code-of-node, other-code}
 use Rattle.wire.proofs.Nodes.{node-none, node-some, few-atoms}
-use Rattle.wire.proofs.Turns.{onward-stopped}
+use Rattle.theory.specs.Checks.{onward-stopped}
 
 -- ---- an atom's numbers
 
@@ -184,7 +184,7 @@ head-by q t e = rw e
 module _ (q : Question) where
   pub n-beyond : variablesFit (q .n) ≡ false → written q ≡ stopped (refusal 4 0)
   unfolding written endWritten
-  n-beyond e = ap (λ (p : Progress Walk Walk). endWritten q (onward 65 (partWritten q) p)) (head-by q false e) ∙ ap (endWritten q) (onward-stopped (partWritten q) 65 (refusal 4 0))
+  n-beyond e = ap (λ (p : Progress Walk Walk). endWritten q (onward 65 (partWritten q) p)) (head-by q false e) ∙ ap (endWritten q) (onward-stopped 65 (partWritten q) (refusal 4 0))
 
   module _ (e : variablesFit (q .n) ≡ true) where
     from-head : written q ≡ endWritten q (onward 65 (partWritten q) (begun q))

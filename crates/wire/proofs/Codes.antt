@@ -7,14 +7,6 @@ use borrow.Author.Tests.{ne-eqb, lt-leb}
 use lib.Dec.{leb}
 use Rattle.scope.specs.Question.{Node, unused, atom, equation, atMost, nodeOf, codeOf, isUnused, isAtom, parts}
 
-pub node-of-code : (x : Node) → nodeOf (codeOf x) ≡ x
-node-of-code unused = refl
-node-of-code (atom equation) = refl
-node-of-code (atom atMost) = refl
-node-of-code Node.not = refl
-node-of-code Node.and = refl
-node-of-code Node.or = refl
-
 pub code-of-node : (c : ℕ) → c ≤ 5 → codeOf (nodeOf c) ≡ c
 code-of-node zero h = refl
 code-of-node (suc zero) h = refl

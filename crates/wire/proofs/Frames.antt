@@ -16,7 +16,7 @@ use Rattle.wire.specs.Steps.{frameOr, frameAnswer, nodeHere, nodeOr, nod
 use Rattle.wire.specs.declared.reading.FrameAnswer.{FrameAnswer}
 use Rattle.wire.specs.declared.reading.NodeAnswer.{NodeAnswer}
 use Rattle.wire.proofs.Headers.{HeaderFound}
-use Rattle.wire.proofs.Codes.{node-of-code}
+use Rattle.theory.specs.Records.{node-of-code}
 
 -- ---- the header, the kind, the length, the body
 
@@ -30,23 +30,23 @@ pub record Framed (header kind exact body : Bool) : Type 0 where
   pub body-there : body ≡ true
 
 module _ (at : ℕ) (header kind exact body : Bool) where
-  pub no-header : header ≡ false → firstRefusal (four at header kind exact body) ≡ some (refusal 1 at)
+  no-header : header ≡ false → firstRefusal (four at header kind exact body) ≡ some (refusal 1 at)
   unfolding firstRefusal
   no-header h = rw h
 
-  pub wrong-kind : header ≡ true → kind ≡ false → firstRefusal (four at header kind exact body) ≡ some (refusal 2 at)
+  wrong-kind : header ≡ true → kind ≡ false → firstRefusal (four at header kind exact body) ≡ some (refusal 2 at)
   unfolding firstRefusal
   wrong-kind h k = rw (h, k)
 
-  pub wrong-length : header ≡ true → kind ≡ true → exact ≡ false → firstRefusal (four at header kind exact body) ≡ some (refusal 3 at)
+  wrong-length : header ≡ true → kind ≡ true → exact ≡ false → firstRefusal (four at header kind exact body) ≡ some (refusal 3 at)
   unfolding firstRefusal
   wrong-length h k l = rw (h, k, l)
 
-  pub body-cut : header ≡ true → kind ≡ true → exact ≡ true → body ≡ false → firstRefusal (four at header kind exact body) ≡ some (refusal 1 at)
+  body-cut : header ≡ true → kind ≡ true → exact ≡ true → body ≡ false → firstRefusal (four at header kind exact body) ≡ some (refusal 1 at)
   unfolding firstRefusal
   body-cut h k l b = rw (h, k, l, b)
 
-  pub all-there : Framed header kind exact body → firstRefusal (four at header kind exact body) ≡ none
+  all-there : Framed header kind exact body → firstRefusal (four at header kind exact body) ≡ none
   unfolding firstRefusal
   all-there f = rw (f .header-there, f .kind-due, f .length-exact, f .body-there)
 

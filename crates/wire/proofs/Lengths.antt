@@ -13,19 +13,11 @@ use Rattle.scope.specs.Whole.{joined}
 use Rattle.scope.specs.Question.{Node, isAtom, coefficientsOf, constantOf}
 use Rattle.scope.specs.Wire.{headKind, kindOf, bodyLength}
 use Rattle.scope.specs.Writing.{numberBytes, recordBytes, atomBody, nodeBytes}
+use Rattle.theory.specs.Records.{body-length}
 use Rattle.wire.specs.Writes.{codeNode, atomsTo, bytesTo}
 
-pub record-length : (kind : ℕ) (body : List ℕ) → length (recordBytes kind body) ≡ 4 + length body
+record-length : (kind : ℕ) (body : List ℕ) → length (recordBytes kind body) ≡ 4 + length body
 record-length kind body = omega arith
-
-joined-length : (cs : List ℤ) → length (joined (map numberBytes cs)) ≡ 4 * length cs
-unfolding joined
-joined-length [] = refl
-joined-length (a ∷ cs) = omega (arith, joined-length cs)
-
-pub body-length : (cs : List ℤ) (k : ℤ) → length (atomBody cs k) ≡ 4 * length cs + 4
-unfolding atomBody
-body-length cs k = length-append (joined (map numberBytes cs)) (numberBytes k) ∙ omega (arith, joined-length cs)
 
 -- of a question that holds 48 coefficients and names no more than six variables
 module _ (q : Question) (full : length (q .coefficients) ≡ 48) (few : q .n ≤ 6) where

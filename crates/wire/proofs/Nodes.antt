@@ -18,7 +18,8 @@ use Rattle.wire.specs.Steps.{frameChecks, frameOr, frameAnswer, headChec
 use Rattle.wire.specs.declared.reading.FrameAnswer.{FrameAnswer}
 use Rattle.wire.specs.declared.reading.HeadAnswer.{HeadAnswer}
 use Rattle.wire.specs.declared.reading.NodeAnswer.{NodeAnswer}
-use Rattle.wire.proofs.Codes.{node-of-code, code-small}
+use Rattle.theory.specs.Records.{node-of-code}
+use Rattle.wire.proofs.Codes.{code-small}
 use Rattle.wire.proofs.Stretches.{part-number, part-numbers}
 use Rattle.wire.specs.Answers.{endChecks, endFrom}
 use Rattle.wire.proofs.Frames.{four, Framed, framed, none-before, some-before, none-both}
@@ -33,10 +34,10 @@ frame-some : (o : Option Refusal) (r : Refusal) → frameOr o ≡ FrameAnswer.Re
 frame-some none r e = let z : _≡_ {A = ℕ} 0 1 = cc in absurd (omega arith)
 frame-some (some s) r e = cc
 
-pub frame-passed : (b : List ℕ) (at due size : ℕ) → frameAnswer b at due size ≡ FrameAnswer.There → firstRefusal (frameChecks b at due size) ≡ none
+frame-passed : (b : List ℕ) (at due size : ℕ) → frameAnswer b at due size ≡ FrameAnswer.There → firstRefusal (frameChecks b at due size) ≡ none
 frame-passed b at due size e = frame-none (firstRefusal (frameChecks b at due size)) e
 
-pub frame-failed : (b : List ℕ) (at due size : ℕ) (r : Refusal) → frameAnswer b at due size ≡ FrameAnswer.Refused r → firstRefusal (frameChecks b at due size) ≡ some r
+frame-failed : (b : List ℕ) (at due size : ℕ) (r : Refusal) → frameAnswer b at due size ≡ FrameAnswer.Refused r → firstRefusal (frameChecks b at due size) ≡ some r
 frame-failed b at due size r e = frame-some (firstRefusal (frameChecks b at due size)) r e
 
 frame-facts : (b : List ℕ) (at due size : ℕ) → frameAnswer b at due size ≡ FrameAnswer.There
@@ -67,12 +68,6 @@ module _ (b : List ℕ) (at : ℕ) where
 
 pub variables-none : (n : ℕ) → n < 1 → variablesFit n ≡ false
 variables-none n h = rw (lt-leb 1 n h)
-
-pub variables-many : (n : ℕ) → 1 ≤ n → 6 < n → variablesFit n ≡ false
-variables-many n h k = rw (le-leb 1 n h, lt-leb n 6 k)
-
-pub variables-fit : (n : ℕ) → 1 ≤ n → n ≤ 6 → variablesFit n ≡ true
-variables-fit n h k = rw (le-leb 1 n h, le-leb n 6 k)
 
 -- ---- the end: its empty body is never cut
 

@@ -11,8 +11,9 @@ use Rattle.scope.specs.declared.Question.{Question}
 use Rattle.scope.specs.Question.{Node, isAtom, coefficientsOf, constantOf}
 use Rattle.scope.specs.Wire.{endKind, kindOf, bodyLength}
 use Rattle.scope.specs.Writing.{twoBytes, recordBytes, atomBody, nodeBytes}
+use Rattle.theory.specs.Records.{body-length}
 use Rattle.wire.specs.Writes.{codeNode, atomsTo, bytesTo}
-use Rattle.wire.proofs.Lengths.{body-length, row-length, bytes-head, bytes-next, atoms-next}
+use Rattle.wire.proofs.Lengths.{row-length, bytes-head, bytes-next, atoms-next}
 use Rattle.wire.proofs.Stores.{sets-append}
 
 -- ---- a node's record

@@ -13,7 +13,7 @@ use Rattle.wire.specs.Formula.{Open, Grown, depthOf}
 use Rattle.wire.proofs.Codes.{atom-code, two-code}
 
 -- a store at i is what stands first from i on
-pub drop-set : (l : List ℕ) (i v : ℕ) → i < length l → drop i (set l i v) ≡ v ∷ drop (i + 1) l
+drop-set : (l : List ℕ) (i v : ℕ) → i < length l → drop i (set l i v) ≡ v ∷ drop (i + 1) l
 drop-set l i v h = rw (add-one, set-split l i v) (drop-at (take i l) (v ∷ drop (suc i) l) i (length-take-le i l (omega arith)))
 
 two-due : (l : List ℕ) (i v : ℕ) → 1 ≤ i → i < length l → drop (i - 1) (set (set l i v) (i - 1) v) ≡ v ∷ (v ∷ drop (i + 1) l)

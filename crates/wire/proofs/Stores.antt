@@ -16,9 +16,6 @@ pub sets-append : (l : List ℕ) (i : ℕ) (xs ys : List ℕ) → sets l i (xs +
 sets-append l i [] ys = let e : i + 0 ≡ i = omega arith in rw e
 sets-append l i (x ∷ xs) ys = let e : i + suc (length xs) ≡ suc i + length xs = omega arith in rw e (sets-append (set l i x) (suc i) xs ys)
 
-pub two-stores : (l : List ℕ) (i v w : ℕ) → set (set l i v) (i + 1) w ≡ sets l i (v ∷ (w ∷ []))
-two-stores l i v w = rw add-one
-
 -- ---- the body of an atom: the coefficients of a row from j on, and the constant, are still to be put
 
 abbrev rowBytes : List ℤ → ℤ → ℕ → ℕ → List ℕ

@@ -15,6 +15,7 @@ use Rattle.scope.specs.Question.{Node, nodeOf, isAtom}
 use Rattle.scope.specs.Refusals.{firstRefusal, Progress, stopped, going, ended, orStopped, onward}
 use Rattle.scope.specs.Wire as wire
 use Rattle.scope.specs.Wire.{Reading, Ended, numberAt, numbersAt, bodyLength, noted, nodeRead, endRead, dueRead, recordRead}
+use Rattle.theory.specs.Checks.{onward-stopped}
 use Rattle.wire.specs.declared.shape.Shape.{Shape}
 use Rattle.wire.specs.declared.reading.NodeAnswer.{NodeAnswer}
 use Rattle.wire.specs.Steps.{partOf, nodeHere, nodeAnswer, notedBody}
@@ -40,16 +41,6 @@ module _ {A B : Type 0} (step : A → Progress A B) where
   pub onward-first : (nodes : ℕ) (a : A) → nodes ≤ 64 → onward (65 - nodes) step (going a) ≡ onward (64 - nodes) step (step a)
   unfolding onward
   onward-first nodes a h = let e : 65 - nodes ≡ suc (64 - nodes) = omega arith in rw e
-
-  pub onward-stopped : (f : ℕ) (r : Refusal) → onward f step (stopped r) ≡ stopped r
-  unfolding onward
-  onward-stopped zero r = refl
-  onward-stopped (suc f) r = refl
-
-  pub onward-ended : (f : ℕ) (e : B) → onward f step (ended e) ≡ ended e
-  unfolding onward
-  onward-ended zero e = refl
-  onward-ended (suc f) e = refl
 
   onward-settled : (f : ℕ) (o : Option Refusal) (e : B) → onward f step (orStopped o (ended e)) ≡ orStopped o (ended e)
   unfolding onward
@@ -146,7 +137,7 @@ module _ (b : List ℕ) (n : ℕ) (q₀ : Question) (s₀ : Shape) (p₀ : ℕ) 
     left-refused r e =
         first
         ∙ ap (onward (64 - s .nodes) (recordRead b)) (turn-refused b q s p (left .sound) t r (rw (left .variables) e))
-        ∙ onward-stopped (recordRead b) (64 - s .nodes) r
+        ∙ onward-stopped (64 - s .nodes) (recordRead b) r
 
     module _ (code len : ℕ) (e : nodeAnswer b p n (s .nodes) (s .atoms) (depthOf s) ≡ NodeAnswer.Node code len) where
       pub left-taken : NodeTaken b p (q .n) (s .nodes) (s .atoms) (depthOf s) code len

@@ -16,7 +16,8 @@ use Rattle.wire.specs.declared.shape.Shape.{Shape}
 use Rattle.wire.specs.declared.reading.NodeAnswer.{NodeAnswer}
 use Rattle.wire.specs.Writes.{codeNode, atomsTo, bytesTo, codeAnswer, FormulaIs, walkAt}
 use Rattle.wire.specs.Formula.{Sound, Grown, Unread, shapeOf, depthOf, laterOf}
-use Rattle.wire.proofs.Turns.{due-first, due-none, onward-first, onward-stopped, onward-ended, grown-nodes}
+use Rattle.wire.proofs.Turns.{due-first, due-none, onward-first, grown-nodes}
+use Rattle.theory.specs.Checks.{onward-stopped, onward-ended}
 use Rattle.wire.proofs.Checking.{CodeTaken, code-taken, code-refused}
 use Rattle.wire.proofs.Lengths.{body-small, node-length, bytes-head, bytes-next, atoms-next}
 
@@ -95,13 +96,13 @@ module _ (q : Question) (s : Shape) (len : ℕ) (w : Walking q s len) where
     record { variables = variables; few-nodes = w .sound .bounded; few-atoms = w .few; atomsIs = w .atomsIs; lenIs = w .lenIs; short = omega (arith, w .short, w .sound .bounded) },
     first
         ∙ ap (onward (64 - s .nodes) (partWritten q)) (turn-end q s (w .sound) t)
-        ∙ onward-ended (partWritten q) (64 - s .nodes) (walkOf q s)
+        ∙ onward-ended (64 - s .nodes) (partWritten q) (walkOf q s)
         ∙ (λ i. ended (record { shape = record { nodes = s .nodes; atoms = s .atoms; due = due-none s (w .sound) t i }; bytes = bytesTo q (s .nodes) })),
   )
 
   module _ (t : s .top < 66) where
     pub walking-refused : (r : Refusal) → codeAnswer q (s .nodes) (s .atoms) (depthOf s) ≡ NodeAnswer.Refused r → whole ≡ stopped r
-    walking-refused r e = first ∙ ap (onward (64 - s .nodes) (partWritten q)) (turn-refused q s (w .sound) t r e) ∙ onward-stopped (partWritten q) (64 - s .nodes) r
+    walking-refused r e = first ∙ ap (onward (64 - s .nodes) (partWritten q)) (turn-refused q s (w .sound) t r e) ∙ onward-stopped (64 - s .nodes) (partWritten q) r
 
     pub walking-again : length (q .coefficients) ≡ 48 → q .n ≤ 6 → (code size : ℕ) → codeAnswer q (s .nodes) (s .atoms) (depthOf s) ≡ NodeAnswer.Node code size
         → (r : Shape) → Grown s code r → Walking q r (len + 4 + size)

@@ -22,7 +22,7 @@ use Rattle.wire.specs.declared.reading.HeadAnswer.{HeadAnswer}
 use Rattle.wire.specs.Steps.{frameChecks, headChecks, headOr, headAnswer}
 use Rattle.wire.specs.Answers.{partRead, headed, formulaRead}
 use Rattle.wire.proofs.Frames.{framed, none-both}
-use Rattle.wire.proofs.Turns.{onward-stopped}
+use Rattle.theory.specs.Checks.{onward-stopped}
 
 -- ---- the head
 
@@ -54,7 +54,7 @@ module _ (b : List ℕ) (at : ℕ) where
   unfolding readFrom headRead
   head-stops r e =
       let h = head-some (firstRefusal (headChecks b at)) (byteAt b (at + 4)) r e in
-      sym (ap (λ (o : Option Refusal). onward 65 (recordRead b) (orStopped o begun)) h ∙ onward-stopped (recordRead b) 65 r)
+      sym (ap (λ (o : Option Refusal). onward 65 (recordRead b) (orStopped o begun)) h ∙ onward-stopped 65 (recordRead b) r)
 
   module _ (n : ℕ) (e : headAnswer b at ≡ HeadAnswer.Head n) where
     passed : (firstRefusal (headChecks b at) ≡ none) × (n ≡ byteAt b (at + 4))
