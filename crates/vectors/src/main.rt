@@ -1,12 +1,16 @@
 // Runs the outside vectors, a call and its outcome a line, through the compiled calls, and counts by kind those that come out as the line says.
 // A line that cannot be taken apart counts as wrong. What a program prints is tested and not proved; that it is safe and ends is proved.
+mod areas;
+mod building;
 mod compared;
+mod deciding;
 mod judging;
 mod lines;
 mod numbers;
 mod reading;
 mod spelling;
 mod tally;
+mod writing;
 
 use libc::STDOUT_FILENO;
 

@@ -1,7 +1,7 @@
 // read BYTES accepted N CODES COEFFICIENTS CONSTANTS | refused NUMBER PLACE
 ghost use Prim.Native.Nat.{_≤_};
 use crate::compared::bytes_hold;
-use crate::compared::numbers_hold;
+use crate::compared::numbers_filled;
 use crate::compared::same_bytes;
 use crate::compared::same_numbers;
 use crate::lines::stretch;
@@ -63,8 +63,8 @@ fn is_empty(question: Question) -> bool {
     let constants = question.constants;
     question.n == 0
         && bytes_hold(&codes, 0, 0)
-        && numbers_hold(&coefficients, 0, 0)
-        && numbers_hold(&constants, 0, 0)
+        && numbers_filled(&coefficients, 0, 0)
+        && numbers_filled(&constants, 0, 0)
 }
 
 pub fn read_right(line: &[u8]) -> bool {

@@ -1,10 +1,13 @@
 // The lines one by one, the call of each, and the counts.
+use crate::building::build_right;
+use crate::deciding::decide_right;
 use crate::judging::judge_right;
 use crate::lines::stop;
 use crate::lines::stretch;
 use crate::lines::word;
 use crate::reading::read_right;
 use crate::spelling::spell_right;
+use crate::writing::write_right;
 use libc::STDOUT_FILENO;
 
 // The kinds of line, by number; the last is for a line of no kind.
@@ -37,7 +40,10 @@ fn kind_of(name: &[u8]) -> usize {
 fn is_right(kind: usize, line: &[u8]) -> bool {
     match kind {
         0 => read_right(line),
+        1 => write_right(line),
         2 => judge_right(line),
+        3 => decide_right(line),
+        4 => build_right(line),
         5 => spell_right(line),
         _ => false,
     }
@@ -79,7 +85,10 @@ fn print_kind(name: &[u8], kind: usize, right: &[u64], wrong: &[u64]) {
 
 fn print_kinds(right: &[u64], wrong: &[u64]) {
     print_kind(b"read ", 0, right, wrong);
+    print_kind(b"write ", 1, right, wrong);
     print_kind(b"judge ", 2, right, wrong);
+    print_kind(b"decide ", 3, right, wrong);
+    print_kind(b"build ", 4, right, wrong);
     print_kind(b"spell ", 5, right, wrong);
     print_kind(b"other ", OTHER, right, wrong);
 }
