@@ -28,7 +28,9 @@ abbrev μ-loop : tie.MeasureT-loop
 begun : (c : tie.After-unread Inv-loop μ-loop)
     → onward 65 (wire.recordRead (now (c .before .before .before .before .args .bytes))) (going (readingOf (c .before .with-head .result) (c .unread .result) (c .before .before .before .before .args .at)))
     ≡ formulaRead (now (c .before .before .before .before .args .bytes)) (c .before .before .before .before .args .n) (c .before .before .before .before .args .at)
-begun c = λ i. onward 65 (wire.recordRead (now (c .before .before .before .before .args .bytes))) (going (record { question = c .before .with-head .ensures i; shape = c .unread .ensures .shape i; place = c .before .before .before .before .args .at }))
+begun c =
+    let a = c .before .before .before .before .args in
+    λ i. onward 65 (wire.recordRead (now (a .bytes))) (going (record { question = c .before .with-head .ensures i; shape = c .unread .ensures .shape i; place = a .at }))
 
 module _ (c : tie.After-node-at Inv-loop μ-loop) where
   answer : c .node-at .result ≡ nodeAnswer (now (c .before .before .before .before .before .before .before .before .before .args .bytes)) (c .before .before .before .before .loop .place) (c .before .before .before .before .before .before .before .count-of .result) (c .before .before .before .before .loop .shape .nodes) (c .before .before .before .before .loop .shape .atoms) (depthOf (c .before .before .before .before .loop .shape))
@@ -50,7 +52,8 @@ node c = taken (c .before .before .before) _ _ (c .before .code .given .1)
 
 loop-holds : tie.Need-loop-holds Inv-loop μ-loop
 loop-holds c =
-    left-start (now (c .before .before .before .before .args .bytes)) (c .before .before .count-of .result) (c .before .with-head .result) (c .unread .result) (c .before .before .before .before .args .at)
+    let a = c .before .before .before .before .args in
+    left-start (now (a .bytes)) (c .before .before .count-of .result) (c .before .with-head .result) (c .unread .result) (a .at)
     (c .unread .ensures) (c .before .before .before .before .pre .1) (ap (λ (q : Question). q .n) (c .before .with-head .ensures) ∙ sym (c .before .before .count-of .ensures .0))
 
 returns : tie.Need-returns Inv-loop μ-loop
@@ -89,15 +92,19 @@ loop-less c = omega (arith, node (c .before .before .before) .room, grown-nodes 
 
 loop-again : tie.Need-loop-again Inv-loop μ-loop
 loop-again c =
-    let q = c .before .before .before .before .before .before .before .before .before .before .loop .question in
-    left-again (now (c .before .before .before .before .before .before .before .before .before .before .before .before .before .before .before .args .bytes)) (c .before .before .before .before .before .before .before .before .before .before .before .before .before .count-of .result) (c .before .before .before .before .before .before .before .before .before .before .before .before .with-head .result) (c .before .before .before .before .before .before .before .before .before .before .before .unread .result) (c .before .before .before .before .before .before .before .before .before .before .before .before .before .before .before .args .at) (c .before .before .before .before .before .before .before .before .before .before .loop .question) (c .before .before .before .before .before .before .before .before .before .before .loop .shape) (c .before .before .before .before .before .before .before .before .before .before .loop .place) (c .before .before .before .before .before .before .before .before .before .before .loop .inv) (c .before .before .before .before .before .before .before .before .before .loop-test .taken) _ _ (sym (answer (c .before .before .before .before .before .before)) ∙ c .before .before .before .before .code .given .1)
+    let a = c .before .before .before .before .before .before .before .before .before .before .before .before .before .before .before .args in
+    let l = c .before .before .before .before .before .before .before .before .before .before .loop in
+    let q = l .question in
+    left-again (now (a .bytes)) (c .before .before .before .before .before .before .before .before .before .before .before .before .before .count-of .result) (c .before .before .before .before .before .before .before .before .before .before .before .before .with-head .result) (c .before .before .before .before .before .before .before .before .before .before .before .unread .result) (a .at) (l .question) (l .shape) (l .place) (l .inv) (c .before .before .before .before .before .before .before .before .before .loop-test .taken) _ _ (sym (answer (c .before .before .before .before .before .before)) ∙ c .before .before .before .before .code .given .1)
     (c .before .noted .result) (c .grown .result)
-    (c .before .noted .ensures ∙ ap (notedBody q (c .before .before .before .before .code .given .0 .0) (c .before .before .before .before .before .before .before .before .before .before .loop .shape .nodes) (c .before .before .before .before .before .before .before .before .before .before .loop .shape .atoms)) (c .before .before .body .ensures))
+    (c .before .noted .ensures ∙ ap (notedBody q (c .before .before .before .before .code .given .0 .0) (l .shape .nodes) (l .shape .atoms)) (c .before .before .body .ensures))
     (c .grown .ensures)
 
 returns-2 : tie.Need-returns-2 Inv-loop μ-loop
 returns-2 c =
-    c .end-from .ensures ∙ ap partRead (sym (left-end (now (c .before .before .before .before .before .before .before .args .bytes)) (c .before .before .before .before .before .count-of .result) (c .before .before .before .before .with-head .result) (c .before .before .before .unread .result) (c .before .before .before .before .before .before .before .args .at) (c .before .before .loop .question) (c .before .before .loop .shape) (c .before .before .loop .place) (c .before .before .loop .inv) (c .before .loop-test .left)) ∙ begun (c .before .before .before))
+    let a = c .before .before .before .before .before .before .before .args in
+    let l = c .before .before .loop in
+    c .end-from .ensures ∙ ap partRead (sym (left-end (now (a .bytes)) (c .before .before .before .before .before .count-of .result) (c .before .before .before .before .with-head .result) (c .before .before .before .unread .result) (a .at) (l .question) (l .shape) (l .place) (l .inv) (c .before .loop-test .left)) ∙ begun (c .before .before .before))
 
 pub formula-from-spec : {M : Type 1} → statement M
 formula-from-spec =

@@ -16,7 +16,8 @@ add-all c = omega (arith, formula c .0 .short)
 
 returns : tie.Need-returns
 returns c =
-    writes-short (c .before .before .before .before .before .before .args .question) (now (c .before .before .before .before .before .before .args .bytes)) _ _ _ _ (formula (c .before) .0) (formula (c .before) .1) (c .if1 .taken)
+    let a = c .before .before .before .before .before .before .args in
+    writes-short (a .question) (now (a .bytes)) _ _ _ _ (formula (c .before) .0) (formula (c .before) .1) (c .if1 .taken)
 
 put-question-requires : tie.Need-put-question-requires
 put-question-requires c κs =
@@ -31,11 +32,13 @@ put-question-requires c κs =
 
 returns-2 : tie.Need-returns-2
 returns-2 c =
-    writes-refused (c .before .before .before .before .before .args .question) (now (c .before .before .before .before .before .args .bytes)) _ (rw (c .before .refusal .given .1) at (c .before .before .before .checked .ensures))
+    let a = c .before .before .before .before .before .args in
+    writes-refused (a .question) (now (a .bytes)) _ (rw (c .before .refusal .given .1) at (c .before .before .before .checked .ensures))
 
 returns-3 : tie.Need-returns-3
 returns-3 c =
-    writes-all (c .before .before .before .before .before .before .before .before .before .before .args .question) (now (c .before .before .before .before .before .before .before .before .before .before .args .bytes)) _ _ _ _ (formula (c .before .before .before .before .before) .0) (formula (c .before .before .before .before .before) .1) (c .before .before .before .before .if1 .left) (c .before .before .put-question .last .1 .1 .0) (c .before .before .put-question .ensures)
+    let a = c .before .before .before .before .before .before .before .before .before .before .args in
+    writes-all (a .question) (now (a .bytes)) _ _ _ _ (formula (c .before .before .before .before .before) .0) (formula (c .before .before .before .before .before) .1) (c .before .before .before .before .if1 .left) (c .before .before .put-question .last .1 .1 .0) (c .before .before .put-question .ensures)
 
 pub write-spec : {M : Type 1} → statement M
 write-spec =

@@ -25,13 +25,15 @@ full c = search needs
 
 loop-holds : tie.Need-loop-holds Inv-loop μ-loop
 loop-holds c =
-    row-start (c .before .before .before .before .args .question .coefficients) (getD (c .before .before .before .before .args .question .constants) (c .before .before .before .before .args .atom) (pos 0)) (6 * c .before .before .before .before .args .atom) (c .before .before .count-of .result) (c .before .before .before .before .args .at) (now (c .before .before .before .before .args .bytes))
+    let a = c .before .before .before .before .args in
+    row-start (a .question .coefficients) (getD (a .question .constants) (a .atom) (pos 0)) (6 * a .atom) (c .before .before .count-of .result) (a .at) (now (a .bytes))
 
 loop-again : tie.Need-loop-again Inv-loop μ-loop
 loop-again c =
+    let a = c .before .before .before .before .before .before .before .before .before .before .before .args in
     let l = c .before .before .before .before .before .before .loop in
-    let z = getD (c .before .before .before .before .before .before .before .before .before .before .before .args .question .coefficients) (6 * c .before .before .before .before .before .before .before .before .before .before .before .args .atom + l .j) (pos 0) in
-    row-again (c .before .before .before .before .before .before .before .before .before .before .before .args .question .coefficients) (getD (c .before .before .before .before .before .before .before .before .before .before .before .args .question .constants) (c .before .before .before .before .before .before .before .before .before .before .before .args .atom) (pos 0)) (6 * c .before .before .before .before .before .before .before .before .before .before .before .args .atom) (c .before .before .before .before .before .before .before .before .before .count-of .result) (c .before .before .before .before .before .before .before .before .before .before .before .args .at) (now (c .before .before .before .before .before .before .before .before .before .before .before .args .bytes)) (l .bytes) (c .before .before .put-number .last .0) (l .j) (l .inv)
+    let z = getD (a .question .coefficients) (6 * a .atom + l .j) (pos 0) in
+    row-again (a .question .coefficients) (getD (a .question .constants) (a .atom) (pos 0)) (6 * a .atom) (c .before .before .before .before .before .before .before .before .before .count-of .result) (a .at) (now (a .bytes)) (l .bytes) (c .before .before .put-number .last .0) (l .j) (l .inv)
     (toZ w32 (ofZ w32 z)) (toZ-ofZ w32 z (record { sfits = c .before .before .before .put-number-arg2 .given })) (c .before .before .before .before .before .loop-test .taken)
     (omega (arith, c .before .before .before .before .before .before .before .before .before .count-of .ensures .0, c .before .before .before .before .before .before .before .before .before .before .before .pre, full (c .before .before .before .before .before .before .before .before .before .before .before))) (c .before .before .put-number .kept .0) (c .before .before .put-number .ensures)
 

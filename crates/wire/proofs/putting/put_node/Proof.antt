@@ -24,12 +24,14 @@ atom c = sym (c .before .is-atom .ensures) ∙ c .if1 .taken
 
 narrow-requires : tie.Need-narrow-requires
 narrow-requires c κs =
-    omega (arith, size c, body-small (c .before .before .before .before .args .question .n) (nodeOf (c .before .before .before .before .args .code)) (c .before .before .before .before .pre .variables))
+    let a = c .before .before .before .before .args in
+    omega (arith, size c, body-small (a .question .n) (nodeOf (a .code)) (c .before .before .before .before .pre .variables))
 
 put-atom-requires : tie.Need-put-atom-requires
 put-atom-requires c κs =
+    let a = c .before .before .before .before .before .before .before .before .before .before .before .before .args in
     let p = c .before .before .before .before .before .before .before .before .before .before .before .before .pre in
-    let m : bodyLength (c .before .before .before .before .before .before .before .before .before .before .before .before .args .question .n) (nodeOf (c .before .before .before .before .before .before .before .before .before .before .before .before .args .code)) ≡ 4 * (c .before .before .before .before .before .before .before .before .before .before .before .before .args .question .n + 1) = rw (atom (c .before)) in
+    let m : bodyLength (a .question .n) (nodeOf (a .code)) ≡ 4 * (a .question .n + 1) = rw (atom (c .before)) in
     (p .variables, (p .few (atom (c .before)), omega (arith, p .room, c .before .before .before .before .before .put-header .kept .0)))
 
 returns : tie.Need-returns

@@ -26,14 +26,21 @@ full : (c : tie.Start Inv-loop μ-loop) → length (c .args .question .coefficie
 full c = search needs
 
 few : (c : tie.In-loop Inv-loop μ-loop) → isAtom (codeNode (c .before .before .before .before .before .before .before .before .before .args .question) (c .before .loop .i)) ≡ true → atomsTo (c .before .before .before .before .before .before .before .before .before .args .question) (c .before .loop .i) < 8
-few c a = atoms-below (c .before .before .before .before .before .before .before .before .before .args .question) (c .before .loop .i) (c .before .before .before .before .before .before .before .before .before .args .nodes) (c .loop-test .taken) a (c .before .before .before .before .before .before .before .before .before .pre .few-atoms)
+few c e =
+    let a = c .before .before .before .before .before .before .before .before .before .args in
+    atoms-below (a .question) (c .before .loop .i) (a .nodes) (c .loop-test .taken) e (c .before .before .before .before .before .before .before .before .before .pre .few-atoms)
 
 long : (c : tie.In-loop Inv-loop μ-loop)
     → length (nodeBytes (c .before .before .before .before .before .before .before .before .before .args .question) (codeNode (c .before .before .before .before .before .before .before .before .before .args .question) (c .before .loop .i)) (atomsTo (c .before .before .before .before .before .before .before .before .before .args .question) (c .before .loop .i))) ≡ 4 + bodyLength (c .before .before .before .before .before .before .before .before .before .args .question .n) (codeNode (c .before .before .before .before .before .before .before .before .before .args .question) (c .before .loop .i))
-long c = node-length (c .before .before .before .before .before .before .before .before .before .args .question) (full (c .before .before .before .before .before .before .before .before .before)) (c .before .before .before .before .before .before .before .before .before .pre .variables) (codeNode (c .before .before .before .before .before .before .before .before .before .args .question) (c .before .loop .i)) _ (few c)
+long c =
+    let a = c .before .before .before .before .before .before .before .before .before .args in
+    node-length (a .question) (full (c .before .before .before .before .before .before .before .before .before)) (c .before .before .before .before .before .before .before .before .before .pre .variables) (codeNode (a .question) (c .before .loop .i)) _ (few c)
 
 below : (c : tie.In-loop Inv-loop μ-loop) → c .before .loop .at + 4 + bodyLength (c .before .before .before .before .before .before .before .before .before .args .question .n) (codeNode (c .before .before .before .before .before .before .before .before .before .args .question) (c .before .loop .i)) ≤ length (bytesTo (c .before .before .before .before .before .before .before .before .before .args .question) (c .before .before .before .before .before .before .before .before .before .args .nodes))
-below c = omega (arith, c .before .loop .inv .atIs, long c, length-below (c .before .before .before .before .before .before .before .before .before .args .question) (c .before .loop .i) (c .before .before .before .before .before .before .before .before .before .args .nodes) (c .loop-test .taken))
+below c =
+    let a = c .before .before .before .before .before .before .before .before .before .args in
+    let l = c .before .loop in
+    omega (arith, l .inv .atIs, long c, length-below (a .question) (l .i) (a .nodes) (c .loop-test .taken))
 
 same : (c : tie.At-loop Inv-loop μ-loop) → length (c .loop .bytes) ≡ length (now (c .before .before .before .before .before .before .before .before .args .bytes))
 same c = c .loop .inv .same ∙ c .before .before .before .put-head .kept .0
@@ -44,11 +51,13 @@ size c = c .body-length .ensures ∙ ap (λ (n : ℕ). bodyLength n (codeNode (c
 
 put-head-requires : tie.Need-put-head-requires Inv-loop μ-loop
 put-head-requires c κs =
-    omega (arith, c .before .before .before .before .pre .room, bytes-least (c .before .before .before .before .args .question) (c .before .before .before .before .args .nodes))
+    let a = c .before .before .before .before .args in
+    omega (arith, c .before .before .before .before .pre .room, bytes-least (a .question) (a .nodes))
 
 loop-holds : tie.Need-loop-holds Inv-loop μ-loop
 loop-holds c =
-    nodes-start (c .before .before .before .before .before .before .before .args .question) (c .before .before .before .before .before .before .before .args .nodes) (c .before .before .put-head .last .0)
+    let a = c .before .before .before .before .before .before .before .args in
+    nodes-start (a .question) (a .nodes) (c .before .before .put-head .last .0)
 
 put-node-requires : tie.Need-put-node-requires Inv-loop μ-loop
 put-node-requires c κs =
@@ -68,21 +77,25 @@ add-at-2 c =
 
 counted-requires : tie.Need-counted-requires Inv-loop μ-loop
 counted-requires c κs =
-    omega (arith, c .before .before .before .before .before .before .loop .inv .atomsIs, c .before .before .before .before .before .before .before .before .before .before .before .before .before .before .pre .few-atoms, atoms-most (c .before .before .before .before .before .before .before .before .before .before .before .before .before .before .args .question) (c .before .before .before .before .before .before .loop .i) (c .before .before .before .before .before .before .before .before .before .before .before .before .before .before .args .nodes) (c .before .before .before .before .before .before .loop .inv .within))
+    let a = c .before .before .before .before .before .before .before .before .before .before .before .before .before .before .args in
+    let l = c .before .before .before .before .before .before .loop in
+    omega (arith, l .inv .atomsIs, c .before .before .before .before .before .before .before .before .before .before .before .before .before .before .pre .few-atoms, atoms-most (a .question) (l .i) (a .nodes) (l .inv .within))
 
 loop-again : tie.Need-loop-again Inv-loop μ-loop
 loop-again c =
+    let a = c .before .before .before .before .before .before .before .before .before .before .before .before .before .before .before .args in
     let l = c .before .before .before .before .before .before .before .loop in
-    let q = c .before .before .before .before .before .before .before .before .before .before .before .before .before .before .before .args .question in
-    nodes-again q (c .before .before .before .before .before .before .before .before .before .before .before .before .before .before .before .args .nodes) (c .before .before .before .before .before .before .before .before .before .before .put-head .last .0) (l .bytes) (l .at) (l .atoms) (l .i) (l .inv) (c .before .before .before .before .before .before .loop-test .taken)
+    let q = a .question in
+    nodes-again q (a .nodes) (c .before .before .before .before .before .before .before .before .before .before .put-head .last .0) (l .bytes) (l .at) (l .atoms) (l .i) (l .inv) (c .before .before .before .before .before .before .loop-test .taken)
     (c .before .before .before .before .put-node .last .1 .1 .1 .0) (c .before .body-length .result) (c .counted .result) (c .before .before .before .before .put-node .kept .1 .1 .1 .0) (c .before .before .before .before .put-node .ensures)
     (ap (λ (k : ℕ). length (nodeBytes q (codeNode q (l .i)) k)) (l .inv .atomsIs) ∙ long (c .before .before .before .before .before .before) ∙ ap (λ (k : ℕ). 4 + k) (sym (size (c .before)))) (c .counted .ensures)
 
 put-header-requires : tie.Need-put-header-requires Inv-loop μ-loop
 put-header-requires c κs =
+    let a = c .before .before .before .before .before .before .before .before .before .before .args in
     let l = c .before .before .loop in
-    let e : l .i ≡ c .before .before .before .before .before .before .before .before .before .before .args .nodes = omega (arith, l .inv .within, c .before .loop-test .left) in
-    omega (arith, c .before .before .before .before .before .before .before .before .before .before .pre .room, same (c .before .before), l .inv .atIs, ap (λ (i : ℕ). length (bytesTo (c .before .before .before .before .before .before .before .before .before .before .args .question) i)) e)
+    let e : l .i ≡ a .nodes = omega (arith, l .inv .within, c .before .loop-test .left) in
+    omega (arith, c .before .before .before .before .before .before .before .before .before .before .pre .room, same (c .before .before), l .inv .atIs, ap (λ (i : ℕ). length (bytesTo (a .question) i)) e)
 
 returns : tie.Need-returns Inv-loop μ-loop
 returns c =

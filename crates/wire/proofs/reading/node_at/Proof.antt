@@ -39,7 +39,9 @@ exact c = atom-size _ _ _ _ _ (node (c .before .before .before .before .before))
 fit : (c : tie.After-numbers-fit) (t : Bool) → c .numbers-fit .result ≡ t
     → numbersFit (numbersAt (c .before .before .before .before .before .before .before .before .before .before .before .before .args .n) (partOf (now (c .before .before .before .before .before .before .before .before .before .before .before .before .args .bytes)) (c .before .before .before .before .before .before .before .before .before .before .before .before .args .at + 4) (c .before .before .before .before .before .before .before .before .frame .given .0 .1 .0)) 0)
     (numberAt (partOf (now (c .before .before .before .before .before .before .before .before .before .before .before .before .args .bytes)) (c .before .before .before .before .before .before .before .before .before .before .before .before .args .at + 4) (c .before .before .before .before .before .before .before .before .frame .given .0 .1 .0)) (4 * c .before .before .before .before .before .before .before .before .before .before .before .before .args .n)) ≡ t
-fit c t e = ap (λ (l : List ℕ). numbersFit (numbersAt (c .before .before .before .before .before .before .before .before .before .before .before .before .args .n) l 0) (numberAt l (4 * c .before .before .before .before .before .before .before .before .before .before .before .before .args .n))) (sym (c .before .body .ensures))
+fit c t e =
+    let a = c .before .before .before .before .before .before .before .before .before .before .before .before .args in
+    ap (λ (l : List ℕ). numbersFit (numbersAt (a .n) l 0) (numberAt l (4 * a .n))) (sym (c .before .body .ensures))
     ∙ sym (c .numbers-fit .ensures) ∙ e
 
 returns : tie.Need-returns
@@ -49,16 +51,19 @@ returns c =
 
 returns-2 : tie.Need-returns-2
 returns-2 c =
-    node-full (now (c .before .before .before .before .before .before .before .args .bytes)) (c .before .before .before .before .before .before .before .args .at) (c .before .before .before .before .before .before .before .args .n) (c .before .before .before .before .before .before .before .args .nodes) (c .before .before .before .before .before .before .before .args .atoms) (c .before .before .before .before .before .before .before .args .depth) _ _ (node (c .before .before)) (c .if1 .taken)
+    let a = c .before .before .before .before .before .before .before .args in
+    node-full (now (a .bytes)) (a .at) (a .n) (a .nodes) (a .atoms) (a .depth) _ _ (node (c .before .before)) (c .if1 .taken)
 
 returns-3 : tie.Need-returns-3
 returns-3 c =
-    node-large (now (c .before .before .before .before .before .before .before .before .before .args .bytes)) (c .before .before .before .before .before .before .before .before .before .args .at) (c .before .before .before .before .before .before .before .before .before .args .n) (c .before .before .before .before .before .before .before .before .before .args .nodes) (c .before .before .before .before .before .before .before .before .before .args .atoms) (c .before .before .before .before .before .before .before .before .before .args .depth) _ _
+    let a = c .before .before .before .before .before .before .before .before .before .args in
+    node-large (now (a .bytes)) (a .at) (a .n) (a .nodes) (a .atoms) (a .depth) _ _
     (node (c .before .before .before .before)) (c .before .before .if1 .left) (large (c .before) false (not-true _ (c .if2 .taken)))
 
 returns-4 : tie.Need-returns-4
 returns-4 c =
-    kept (c .before .before .before .before .before) ∙ node-plain (now (c .before .before .before .before .before .before .before .before .before .before .args .bytes)) (c .before .before .before .before .before .before .before .before .before .before .args .at) (c .before .before .before .before .before .before .before .before .before .before .args .n) (c .before .before .before .before .before .before .before .before .before .before .args .nodes) (c .before .before .before .before .before .before .before .before .before .before .args .atoms) (c .before .before .before .before .before .before .before .before .before .before .args .depth) _ _
+    let a = c .before .before .before .before .before .before .before .before .before .before .args in
+    kept (c .before .before .before .before .before) ∙ node-plain (now (a .bytes)) (a .at) (a .n) (a .nodes) (a .atoms) (a .depth) _ _
     (node (c .before .before .before .before .before)) (c .before .before .before .if1 .left) (large (c .before .before) true (not-false _ (c .before .if2 .left)))
     (sym (c .before .before .before .before .is-atom .ensures) ∙ not-true _ (c .if3 .taken))
 
@@ -67,19 +72,22 @@ add-body c = omega (arith, node (c .before .before .before .before .before))
 
 numbers-fit-requires : tie.Need-numbers-fit-requires
 numbers-fit-requires c κs =
+    let a = c .before .before .before .before .before .before .before .before .before .before .before .args in
     let k = node (c .before .before .before .before .before .before) in
-    let l = ap length (c .body .ensures) ∙ part-length (now (c .before .before .before .before .before .before .before .before .before .before .before .args .bytes)) (c .before .before .before .before .before .before .before .before .before .before .before .args .at + 4) _ (k .within) ∙ exact (c .before) in
+    let l = ap length (c .body .ensures) ∙ part-length (now (a .bytes)) (a .at + 4) _ (k .within) ∙ exact (c .before) in
     (c .before .before .before .before .before .before .before .before .before .before .before .pre, omega (arith, l))
 
 returns-5 : tie.Need-returns-5
 returns-5 c =
-    kept (c .before .before .before .before .before .before .before .before) ∙ node-atom (now (c .before .before .before .before .before .before .before .before .before .before .before .before .before .args .bytes)) (c .before .before .before .before .before .before .before .before .before .before .before .before .before .args .at) (c .before .before .before .before .before .before .before .before .before .before .before .before .before .args .n) (c .before .before .before .before .before .before .before .before .before .before .before .before .before .args .nodes) (c .before .before .before .before .before .before .before .before .before .before .before .before .before .args .atoms) (c .before .before .before .before .before .before .before .before .before .before .before .before .before .args .depth) _ _
+    let a = c .before .before .before .before .before .before .before .before .before .before .before .before .before .args in
+    kept (c .before .before .before .before .before .before .before .before) ∙ node-atom (now (a .bytes)) (a .at) (a .n) (a .nodes) (a .atoms) (a .depth) _ _
     (node (c .before .before .before .before .before .before .before .before)) (c .before .before .before .before .before .before .if1 .left) (large (c .before .before .before .before .before) true (not-false _ (c .before .before .before .before .if2 .left))) (atom (c .before .before .before))
     (fit (c .before) true (c .if4 .taken))
 
 returns-6 : tie.Need-returns-6
 returns-6 c =
-    node-beyond (now (c .before .before .before .before .before .before .before .before .before .before .before .before .before .args .bytes)) (c .before .before .before .before .before .before .before .before .before .before .before .before .before .args .at) (c .before .before .before .before .before .before .before .before .before .before .before .before .before .args .n) (c .before .before .before .before .before .before .before .before .before .before .before .before .before .args .nodes) (c .before .before .before .before .before .before .before .before .before .before .before .before .before .args .atoms) (c .before .before .before .before .before .before .before .before .before .before .before .before .before .args .depth) _ _
+    let a = c .before .before .before .before .before .before .before .before .before .before .before .before .before .args in
+    node-beyond (now (a .bytes)) (a .at) (a .n) (a .nodes) (a .atoms) (a .depth) _ _
     (node (c .before .before .before .before .before .before .before .before)) (c .before .before .before .before .before .before .if1 .left) (large (c .before .before .before .before .before) true (not-false _ (c .before .before .before .before .if2 .left))) (atom (c .before .before .before))
     (fit (c .before) false (c .if4 .left))
 

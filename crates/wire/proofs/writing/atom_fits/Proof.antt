@@ -15,7 +15,9 @@ use Rattle.wire.proofs.writing.atom_fits.Tie as tie
 
 row : (c : tie.After-row-fits) (t : Bool) → c .row-fits .result ≡ t
     → all coefficientFits (take (c .before .before .before .before .args .question .n) (drop (6 * c .before .before .before .before .args .atom) (c .before .before .before .before .args .question .coefficients))) ≡ t
-row c t e = ap (λ (n : ℕ). all coefficientFits (take n (drop (6 * c .before .before .before .before .args .atom) (c .before .before .before .before .args .question .coefficients)))) (sym (c .before .before .before .count-of .ensures .0)) ∙ sym (c .row-fits .ensures) ∙ e
+row c t e =
+    let a = c .before .before .before .before .args in
+    ap (λ (n : ℕ). all coefficientFits (take n (drop (6 * a .atom) (a .question .coefficients)))) (sym (c .before .before .before .count-of .ensures .0)) ∙ sym (c .row-fits .ensures) ∙ e
 
 returns : tie.Need-returns
 returns c =
@@ -25,7 +27,8 @@ returns c =
 
 returns-2 : tie.Need-returns-2
 returns-2 c =
-    row-beyond (c .before .before .before .before .before .args .question) (c .before .before .before .before .before .args .atom) (row (c .before) false (c .if1 .left))
+    let a = c .before .before .before .before .before .args in
+    row-beyond (a .question) (a .atom) (row (c .before) false (c .if1 .left))
 
 pub atom-fits-spec : {M : Type 1} → statement M
 atom-fits-spec =

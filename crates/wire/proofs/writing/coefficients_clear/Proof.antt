@@ -33,15 +33,21 @@ loop-holds c = swept-start (coefficientClear (c .args .n) (c .args .atoms)) (c .
 
 returns : tie.Need-returns Inv-loop μ-loop
 returns c =
-    swept-not (coefficientClear (c .before .before .before .before .before .args .n) (c .before .before .before .before .before .args .atoms)) (c .before .before .before .before .before .args .t1) (c .before .before .before .before .loop .cell) (omega (arith, full (c .before .before .before .before .before), c .before .before .before .loop-test .taken)) (c .before .before .before .before .loop .inv) (clear (c .before) false (not-true _ (c .if1 .taken)))
+    let a = c .before .before .before .before .before .args in
+    let l = c .before .before .before .before .loop in
+    swept-not (coefficientClear (a .n) (a .atoms)) (a .t1) (l .cell) (omega (arith, full (c .before .before .before .before .before), c .before .before .before .loop-test .taken)) (l .inv) (clear (c .before) false (not-true _ (c .if1 .taken)))
 
 loop-again : tie.Need-loop-again Inv-loop μ-loop
 loop-again c =
-    swept-again (coefficientClear (c .before .before .before .before .before .args .n) (c .before .before .before .before .before .args .atoms)) (c .before .before .before .before .before .args .t1) (c .before .before .before .before .loop .cell) (omega (arith, full (c .before .before .before .before .before), c .before .before .before .loop-test .taken)) (c .before .before .before .before .loop .inv) (clear (c .before) true (not-false _ (c .if1 .left)))
+    let a = c .before .before .before .before .before .args in
+    let l = c .before .before .before .before .loop in
+    swept-again (coefficientClear (a .n) (a .atoms)) (a .t1) (l .cell) (omega (arith, full (c .before .before .before .before .before), c .before .before .before .loop-test .taken)) (l .inv) (clear (c .before) true (not-false _ (c .if1 .left)))
 
 returns-2 : tie.Need-returns-2 Inv-loop μ-loop
 returns-2 c =
-    swept-whole (coefficientClear (c .before .before .args .n) (c .before .before .args .atoms)) (c .before .before .args .t1) (c .before .loop .cell) (omega (arith, full (c .before .before), c .loop-test .left)) (c .before .loop .inv)
+    let a = c .before .before .args in
+    let l = c .before .loop in
+    swept-whole (coefficientClear (a .n) (a .atoms)) (a .t1) (l .cell) (omega (arith, full (c .before .before), c .loop-test .left)) (l .inv)
 
 pub coefficients-clear-spec : {M : Type 1} → statement M
 coefficients-clear-spec =

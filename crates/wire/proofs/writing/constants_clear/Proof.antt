@@ -33,15 +33,21 @@ loop-holds c = swept-start (constantClear (c .args .atoms)) (c .args .t1)
 
 returns : tie.Need-returns Inv-loop μ-loop
 returns c =
-    swept-not (constantClear (c .before .before .before .before .before .args .atoms)) (c .before .before .before .before .before .args .t1) (c .before .before .before .before .loop .i) (omega (arith, full (c .before .before .before .before .before), c .before .before .before .loop-test .taken)) (c .before .before .before .before .loop .inv) (clear (c .before) false (not-true _ (c .if1 .taken)))
+    let a = c .before .before .before .before .before .args in
+    let l = c .before .before .before .before .loop in
+    swept-not (constantClear (a .atoms)) (a .t1) (l .i) (omega (arith, full (c .before .before .before .before .before), c .before .before .before .loop-test .taken)) (l .inv) (clear (c .before) false (not-true _ (c .if1 .taken)))
 
 loop-again : tie.Need-loop-again Inv-loop μ-loop
 loop-again c =
-    swept-again (constantClear (c .before .before .before .before .before .args .atoms)) (c .before .before .before .before .before .args .t1) (c .before .before .before .before .loop .i) (omega (arith, full (c .before .before .before .before .before), c .before .before .before .loop-test .taken)) (c .before .before .before .before .loop .inv) (clear (c .before) true (not-false _ (c .if1 .left)))
+    let a = c .before .before .before .before .before .args in
+    let l = c .before .before .before .before .loop in
+    swept-again (constantClear (a .atoms)) (a .t1) (l .i) (omega (arith, full (c .before .before .before .before .before), c .before .before .before .loop-test .taken)) (l .inv) (clear (c .before) true (not-false _ (c .if1 .left)))
 
 returns-2 : tie.Need-returns-2 Inv-loop μ-loop
 returns-2 c =
-    swept-whole (constantClear (c .before .before .args .atoms)) (c .before .before .args .t1) (c .before .loop .i) (omega (arith, full (c .before .before), c .loop-test .left)) (c .before .loop .inv)
+    let a = c .before .before .args in
+    let l = c .before .loop in
+    swept-whole (constantClear (a .atoms)) (a .t1) (l .i) (omega (arith, full (c .before .before), c .loop-test .left)) (l .inv)
 
 pub constants-clear-spec : {M : Type 1} → statement M
 constants-clear-spec =

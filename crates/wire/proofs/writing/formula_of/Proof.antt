@@ -23,7 +23,9 @@ full : (c : tie.Start Inv-loop μ-loop) → length (c .args .question .coefficie
 full c = search needs
 
 answer : (c : tie.After-code-at Inv-loop μ-loop) → c .code-at .result ≡ codeAnswer (c .before .before .before .before .before .before .args .question) (c .before .before .before .before .loop .shape .nodes) (c .before .before .before .before .loop .shape .atoms) (depthOf (c .before .before .before .before .loop .shape))
-answer c = c .code-at .ensures ∙ ap (codeAnswer (c .before .before .before .before .before .before .args .question) (c .before .before .before .before .loop .shape .nodes) (c .before .before .before .before .loop .shape .atoms)) (c .before .count-of .ensures .0)
+answer c =
+    let l = c .before .before .before .before .loop in
+    c .code-at .ensures ∙ ap (codeAnswer (c .before .before .before .before .before .before .args .question) (l .shape .nodes) (l .shape .atoms)) (c .before .count-of .ensures .0)
 
 node : (c : tie.After-known-told2 Inv-loop μ-loop)
     → CodeTaken (c .before .before .before .before .before .before .before .before .before .args .question) (c .before .before .before .before .before .before .before .loop .shape .nodes) (c .before .before .before .before .before .before .before .loop .shape .atoms) (depthOf (c .before .before .before .before .before .before .before .loop .shape)) (c .before .code .given .0 .0) (c .before .code .given .0 .1 .0)
@@ -34,7 +36,8 @@ loop-holds c = walking-start (c .before .args .question) (c .unread .result) (c 
 
 returns : tie.Need-returns Inv-loop μ-loop
 returns c =
-    walking-refused (c .before .before .before .before .before .before .before .before .before .args .question) (c .before .before .before .before .before .before .before .loop .shape) (c .before .before .before .before .before .before .before .loop .len) (c .before .before .before .before .before .before .before .loop .inv) (c .before .before .before .before .before .before .loop-test .taken) _ (sym (answer (c .before .before .before)) ∙ c .before .refusal .given .1)
+    let l = c .before .before .before .before .before .before .before .loop in
+    walking-refused (c .before .before .before .before .before .before .before .before .before .args .question) (l .shape) (l .len) (l .inv) (c .before .before .before .before .before .before .loop-test .taken) _ (sym (answer (c .before .before .before)) ∙ c .before .refusal .given .1)
 
 grown-requires : tie.Need-grown-requires Inv-loop μ-loop
 grown-requires c κs =
@@ -43,24 +46,28 @@ grown-requires c κs =
 
 add-len : tie.Need-add-len Inv-loop μ-loop
 add-len c =
-    omega (arith, c .before .before .before .before .before .before .before .before .loop .inv .short, c .before .before .before .before .before .before .before .before .loop .inv .sound .bounded)
+    let l = c .before .before .before .before .before .before .before .before .loop in
+    omega (arith, l .inv .short, l .inv .sound .bounded)
 
 add-len-2 : tie.Need-add-len-2 Inv-loop μ-loop
 add-len-2 c =
+    let l = c .before .before .before .before .before .before .before .before .loop in
     let k = node (c .before) in
-    omega (arith, c .before .before .before .before .before .before .before .before .loop .inv .short, c .before .before .before .before .before .before .before .before .loop .inv .sound .bounded, k .lenIs, body-small _ (codeNode (c .before .before .before .before .before .before .before .before .before .before .args .question) (c .before .before .before .before .before .before .before .before .loop .shape .nodes)) (c .before .before .before .before .before .before .before .before .before .before .pre))
+    omega (arith, l .inv .short, l .inv .sound .bounded, k .lenIs, body-small _ (codeNode (c .before .before .before .before .before .before .before .before .before .before .args .question) (l .shape .nodes)) (c .before .before .before .before .before .before .before .before .before .before .pre))
 
 loop-less : tie.Need-loop-less Inv-loop μ-loop
 loop-less c = omega (arith, node (c .before) .room, grown-nodes _ _ _ (c .grown .ensures))
 
 loop-again : tie.Need-loop-again Inv-loop μ-loop
 loop-again c =
-    walking-again (c .before .before .before .before .before .before .before .before .before .before .args .question) (c .before .before .before .before .before .before .before .before .loop .shape) (c .before .before .before .before .before .before .before .before .loop .len) (c .before .before .before .before .before .before .before .before .loop .inv) (c .before .before .before .before .before .before .before .loop-test .taken)
+    let l = c .before .before .before .before .before .before .before .before .loop in
+    walking-again (c .before .before .before .before .before .before .before .before .before .before .args .question) (l .shape) (l .len) (l .inv) (c .before .before .before .before .before .before .before .loop-test .taken)
     (full (c .before .before .before .before .before .before .before .before .before .before)) (c .before .before .before .before .before .before .before .before .before .before .pre) _ _ (sym (answer (c .before .before .before .before)) ∙ c .before .before .code .given .1) (c .grown .result) (c .grown .ensures)
 
 returns-2 : tie.Need-returns-2 Inv-loop μ-loop
 returns-2 c =
-    walking-end (c .before .before .before .args .question) (c .before .loop .shape) (c .before .loop .len) (c .before .loop .inv) (c .before .before .before .pre) (c .loop-test .left)
+    let l = c .before .loop in
+    walking-end (c .before .before .before .args .question) (l .shape) (l .len) (l .inv) (c .before .before .before .pre) (c .loop-test .left)
 
 pub formula-of-spec : {M : Type 1} → statement M
 formula-of-spec =

@@ -24,7 +24,8 @@ within c = search needs
 
 fits : (c : tie.After-coefficient-fits Inv-loop μ-loop) (t : Bool) → c .coefficient-fits .result ≡ t → coefficientFits (getD (c .before .before .before .before .args .t1) (c .before .before .before .before .args .cell + c .before .before .before .loop .i) (pos 0)) ≡ t
 fits c t e =
-    let z = getD (c .before .before .before .before .args .t1) (c .before .before .before .before .args .cell + c .before .before .before .loop .i) (pos 0) in
+    let a = c .before .before .before .before .args in
+    let z = getD (a .t1) (a .cell + c .before .before .before .loop .i) (pos 0) in
     simp (toZ-ofZ w32 z (record { sfits = c .before .coefficient-fits-arg .given })) at (sym (c .coefficient-fits .ensures)) ∙ e
 
 loop-holds : tie.Need-loop-holds Inv-loop μ-loop
@@ -32,15 +33,21 @@ loop-holds c = row-start (c .args .t1) (c .args .cell) (c .args .n)
 
 returns : tie.Need-returns Inv-loop μ-loop
 returns c =
-    row-not (c .before .before .before .before .before .args .t1) (c .before .before .before .before .before .args .cell) (c .before .before .before .before .before .args .n) (c .before .before .before .before .loop .i) (within (c .before .before .before .before .before)) (c .before .before .before .loop-test .taken) (c .before .before .before .before .loop .inv) (fits (c .before) false (not-true _ (c .if1 .taken)))
+    let a = c .before .before .before .before .before .args in
+    let l = c .before .before .before .before .loop in
+    row-not (a .t1) (a .cell) (a .n) (l .i) (within (c .before .before .before .before .before)) (c .before .before .before .loop-test .taken) (l .inv) (fits (c .before) false (not-true _ (c .if1 .taken)))
 
 loop-again : tie.Need-loop-again Inv-loop μ-loop
 loop-again c =
-    row-again (c .before .before .before .before .before .args .t1) (c .before .before .before .before .before .args .cell) (c .before .before .before .before .before .args .n) (c .before .before .before .before .loop .i) (within (c .before .before .before .before .before)) (c .before .before .before .loop-test .taken) (c .before .before .before .before .loop .inv) (fits (c .before) true (not-false _ (c .if1 .left)))
+    let a = c .before .before .before .before .before .args in
+    let l = c .before .before .before .before .loop in
+    row-again (a .t1) (a .cell) (a .n) (l .i) (within (c .before .before .before .before .before)) (c .before .before .before .loop-test .taken) (l .inv) (fits (c .before) true (not-false _ (c .if1 .left)))
 
 returns-2 : tie.Need-returns-2 Inv-loop μ-loop
 returns-2 c =
-    row-whole (c .before .before .args .t1) (c .before .before .args .cell) (c .before .before .args .n) (c .before .loop .i) (c .loop-test .left) (c .before .loop .inv)
+    let a = c .before .before .args in
+    let l = c .before .loop in
+    row-whole (a .t1) (a .cell) (a .n) (l .i) (c .loop-test .left) (l .inv)
 
 pub row-fits-spec : {M : Type 1} → statement M
 row-fits-spec =
