@@ -112,7 +112,7 @@ nodes-start q nodes buf =
     let e : nodes - 0 ≡ nodes = omega arith in
     record { within = omega arith; same = refl; atIs = sym (bytes-head q); atomsIs = sym (atoms-zero q); rest = rw e }
 
-module _ (q : Question) (nodes : ℕ) (buf₀ buf : List ℕ) (at atoms i : ℕ) (inv : NodesLeft q nodes buf₀ buf at atoms i) where
+module _ {q : Question} {nodes : ℕ} {buf₀ buf : List ℕ} {at atoms i : ℕ} (inv : NodesLeft q nodes buf₀ buf at atoms i) where
   pub nodes-again : (h : i < nodes) (after : List ℕ) (len atoms′ : ℕ) → length after ≡ length buf → after ≡ sets buf at (nodeBytes q (codeNode q i) atoms)
       → length (nodeBytes q (codeNode q i) atoms) ≡ 4 + len → atoms′ ≡ atoms + cond (isAtom (codeNode q i)) 1 0
       → NodesLeft q nodes buf₀ after (at + 4 + len) atoms′ (i + 1)

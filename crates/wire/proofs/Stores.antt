@@ -47,26 +47,26 @@ module _ (l : List ℤ) (k : ℤ) (row n at : ℕ) where
       let z : n - 0 ≡ n = omega arith in
       record { within = omega arith; same = refl; rest = rw (x, y, z) }
 
-  module _ (buf₀ buf after : List ℕ) (j : ℕ) (inv : RowLeft l k row n at buf₀ buf j) where
-    pub row-again : (v : ℤ) → v ≡ getD l (row + j) (pos 0) → j < n → row + n ≤ length l → length after ≡ length buf → after ≡ sets buf (at + 4 * j) (numberBytes v)
-        → RowLeft l k row n at buf₀ after (j + 1)
-    row-again v e h g s f =
-        let x : at + 4 * (j + 1) ≡ at + 4 * j + 4 = omega arith in
-        record {
-          within = omega arith;
-          same = s ∙ inv .same;
-          rest = rw (x, f, e) (sym (sets-append buf (at + 4 * j) (numberBytes (getD l (row + j) (pos 0))) (rowBytes l k (row + (j + 1)) (n - (j + 1))))
-              ∙ ap (sets buf (at + 4 * j)) (sym (row-first l k row n j h g)) ∙ inv .rest);
-        }
+module _ {l : List ℤ} {k : ℤ} {row n at : ℕ} {buf₀ buf : List ℕ} {j : ℕ} (inv : RowLeft l k row n at buf₀ buf j) (after : List ℕ) where
+  pub row-again : (v : ℤ) → v ≡ getD l (row + j) (pos 0) → j < n → row + n ≤ length l → length after ≡ length buf → after ≡ sets buf (at + 4 * j) (numberBytes v)
+      → RowLeft l k row n at buf₀ after (j + 1)
+  row-again v e h g s f =
+      let x : at + 4 * (j + 1) ≡ at + 4 * j + 4 = omega arith in
+      record {
+        within = omega arith;
+        same = s ∙ inv .same;
+        rest = rw (x, f, e) (sym (sets-append buf (at + 4 * j) (numberBytes (getD l (row + j) (pos 0))) (rowBytes l k (row + (j + 1)) (n - (j + 1))))
+            ∙ ap (sets buf (at + 4 * j)) (sym (row-first l k row n j h g)) ∙ inv .rest);
+      }
 
-    pub row-last : (v : ℤ) → v ≡ k → n ≤ j → after ≡ sets buf (at + 4 * n) (numberBytes v) → after ≡ sets buf₀ at (rowBytes l k row n)
-    row-last v e h f =
-        let y : 4 * n ≡ 4 * j = omega (arith, inv .within) in
-        f
-        ∙ ap (λ (p : ℕ). sets buf (at + p) (numberBytes v)) y
-        ∙ ap (λ (z : ℤ). sets buf (at + 4 * j) (numberBytes z)) e
-        ∙ ap (sets buf (at + 4 * j)) (sym (row-none l k row n j h))
-        ∙ inv .rest
+  pub row-last : (v : ℤ) → v ≡ k → n ≤ j → after ≡ sets buf (at + 4 * n) (numberBytes v) → after ≡ sets buf₀ at (rowBytes l k row n)
+  row-last v e h f =
+      let y : 4 * n ≡ 4 * j = omega (arith, inv .within) in
+      f
+      ∙ ap (λ (p : ℕ). sets buf (at + p) (numberBytes v)) y
+      ∙ ap (λ (z : ℤ). sets buf (at + 4 * j) (numberBytes z)) e
+      ∙ ap (sets buf (at + 4 * j)) (sym (row-none l k row n j h))
+      ∙ inv .rest
 
 pub atom-bytes : (q : Question) (a n : ℕ) → n ≡ q .n → rowBytes (q .coefficients) (getD (q .constants) a (pos 0)) (6 * a) n ≡ atomBody (coefficientsOf q a) (constantOf q a)
 unfolding atomBody coefficientsOf constantOf

@@ -122,7 +122,7 @@ pub record Left (b : List ℕ) (n : ℕ) (q₀ : Question) (s₀ : Shape) (p₀ 
   pub variables : q .n ≡ n
   pub rest : onward (65 - s .nodes) (recordRead b) (going (readingOf q s p)) ≡ onward 65 (recordRead b) (going (readingOf q₀ s₀ p₀))
 
-module _ (b : List ℕ) (n : ℕ) (q₀ : Question) (s₀ : Shape) (p₀ : ℕ) (q : Question) (s : Shape) (p : ℕ) (left : Left b n q₀ s₀ p₀ q s p) where
+module _ {b : List ℕ} {n : ℕ} {q₀ : Question} {s₀ : Shape} {p₀ : ℕ} {q : Question} {s : Shape} {p : ℕ} (left : Left b n q₀ s₀ p₀ q s p) where
   abbrev whole : Progress Reading Ended
   whole = onward 65 (recordRead b) (going (readingOf q₀ s₀ p₀))
 

@@ -84,7 +84,7 @@ walking-start q s u =
           ∙ (λ i. onward 65 (partWritten q) (going (record { shape = u .shape i; bytes = bytesTo q (m i) })));
     }
 
-module _ (q : Question) (s : Shape) (len : ℕ) (w : Walking q s len) where
+module _ {q : Question} {s : Shape} {len : ℕ} (w : Walking q s len) where
   abbrev whole : Progress Walk Walk
   whole = onward 65 (partWritten q) (start q)
 

@@ -37,11 +37,11 @@ module _ (c : tie.After-node-at Inv-loop μ-loop) where
   answer = c .node-at .ensures ∙ ap (nodeAnswer (now (c .before .before .before .before .before .before .before .before .before .args .bytes)) (c .before .before .before .before .loop .place) (c .before .before .before .before .before .before .before .count-of .result) (c .before .before .before .before .loop .shape .nodes) (c .before .before .before .before .loop .shape .atoms)) (c .before .count-of2 .ensures .0)
 
   refused : (r : Refusal) → c .node-at .result ≡ NodeAnswer.Refused r → stopped r ≡ formulaRead (now (c .before .before .before .before .before .before .before .before .before .args .bytes)) (c .before .before .before .before .before .before .before .before .before .args .n) (c .before .before .before .before .before .before .before .before .before .args .at)
-  refused r e = sym (left-refused (now (c .before .before .before .before .before .before .before .before .before .args .bytes)) (c .before .before .before .before .before .before .before .count-of .result) (c .before .before .before .before .before .before .with-head .result) (c .before .before .before .before .before .unread .result) (c .before .before .before .before .before .before .before .before .before .args .at) (c .before .before .before .before .loop .question) (c .before .before .before .before .loop .shape) (c .before .before .before .before .loop .place) (c .before .before .before .before .loop .inv) (c .before .before .before .loop-test .taken) r (sym answer ∙ e)) ∙ begun (c .before .before .before .before .before)
+  refused r e = sym (left-refused (c .before .before .before .before .loop .inv) (c .before .before .before .loop-test .taken) r (sym answer ∙ e)) ∙ begun (c .before .before .before .before .before)
 
   taken : (code len : ℕ) → c .node-at .result ≡ NodeAnswer.Node code len
       → NodeTaken (now (c .before .before .before .before .before .before .before .before .before .args .bytes)) (c .before .before .before .before .loop .place) (c .before .before .before .before .loop .question .n) (c .before .before .before .before .loop .shape .nodes) (c .before .before .before .before .loop .shape .atoms) (depthOf (c .before .before .before .before .loop .shape)) code len
-  taken code len e = left-taken (now (c .before .before .before .before .before .before .before .before .before .args .bytes)) (c .before .before .before .before .before .before .before .count-of .result) (c .before .before .before .before .before .before .with-head .result) (c .before .before .before .before .before .unread .result) (c .before .before .before .before .before .before .before .before .before .args .at) (c .before .before .before .before .loop .question) (c .before .before .before .before .loop .shape) (c .before .before .before .before .loop .place) (c .before .before .before .before .loop .inv) (c .before .before .before .loop-test .taken) code len (sym answer ∙ e)
+  taken code len e = left-taken (c .before .before .before .before .loop .inv) (c .before .before .before .loop-test .taken) code len (sym answer ∙ e)
 
   few-variables : c .before .before .before .before .loop .question .n ≤ 6
   few-variables = omega (arith, c .before .before .before .before .loop .inv .variables, c .before .before .before .before .before .before .before .count-of .ensures .0, c .before .before .before .before .before .before .before .before .before .pre .0)
@@ -95,7 +95,7 @@ loop-again c =
     let a = c .before .before .before .before .before .before .before .before .before .before .before .before .before .before .before .args in
     let l = c .before .before .before .before .before .before .before .before .before .before .loop in
     let q = l .question in
-    left-again (now (a .bytes)) (c .before .before .before .before .before .before .before .before .before .before .before .before .before .count-of .result) (c .before .before .before .before .before .before .before .before .before .before .before .before .with-head .result) (c .before .before .before .before .before .before .before .before .before .before .before .unread .result) (a .at) (l .question) (l .shape) (l .place) (l .inv) (c .before .before .before .before .before .before .before .before .before .loop-test .taken) _ _ (sym (answer (c .before .before .before .before .before .before)) ∙ c .before .before .before .before .code .given .1)
+    left-again (l .inv) (c .before .before .before .before .before .before .before .before .before .loop-test .taken) _ _ (sym (answer (c .before .before .before .before .before .before)) ∙ c .before .before .before .before .code .given .1)
     (c .before .noted .result) (c .grown .result)
     (c .before .noted .ensures ∙ ap (notedBody q (c .before .before .before .before .code .given .0 .0) (l .shape .nodes) (l .shape .atoms)) (c .before .before .body .ensures))
     (c .grown .ensures)
@@ -104,7 +104,7 @@ returns-2 : tie.Need-returns-2 Inv-loop μ-loop
 returns-2 c =
     let a = c .before .before .before .before .before .before .before .args in
     let l = c .before .before .loop in
-    c .end-from .ensures ∙ ap partRead (sym (left-end (now (a .bytes)) (c .before .before .before .before .before .count-of .result) (c .before .before .before .before .with-head .result) (c .before .before .before .unread .result) (a .at) (l .question) (l .shape) (l .place) (l .inv) (c .before .loop-test .left)) ∙ begun (c .before .before .before))
+    c .end-from .ensures ∙ ap partRead (sym (left-end (l .inv) (c .before .loop-test .left)) ∙ begun (c .before .before .before))
 
 pub formula-from-spec : {M : Type 1} → statement M
 formula-from-spec =

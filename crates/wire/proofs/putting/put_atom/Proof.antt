@@ -33,7 +33,7 @@ loop-again c =
     let a = c .before .before .before .before .before .before .before .before .before .before .before .args in
     let l = c .before .before .before .before .before .before .loop in
     let z = getD (a .question .coefficients) (6 * a .atom + l .j) (pos 0) in
-    row-again (a .question .coefficients) (getD (a .question .constants) (a .atom) (pos 0)) (6 * a .atom) (c .before .before .before .before .before .before .before .before .before .count-of .result) (a .at) (now (a .bytes)) (l .bytes) (c .before .before .put-number .last .0) (l .j) (l .inv)
+    row-again (l .inv) (c .before .before .put-number .last .0)
     (toZ w32 (ofZ w32 z)) (toZ-ofZ w32 z (record { sfits = c .before .before .before .put-number-arg2 .given })) (c .before .before .before .before .before .loop-test .taken)
     (omega (arith, c .before .before .before .before .before .before .before .before .before .count-of .ensures .0, c .before .before .before .before .before .before .before .before .before .before .before .pre, full (c .before .before .before .before .before .before .before .before .before .before .before))) (c .before .before .put-number .kept .0) (c .before .before .put-number .ensures)
 
@@ -42,7 +42,7 @@ returns c =
     let l = c .before .before .before .before .before .before .loop in
     let a = c .before .before .before .before .before .before .before .before .before .before .before .args in
     let z = getD (a .question .constants) (a .atom) (pos 0) in
-    row-last (c .before .before .before .before .before .before .before .before .before .before .before .args .question .coefficients) (getD (c .before .before .before .before .before .before .before .before .before .before .before .args .question .constants) (c .before .before .before .before .before .before .before .before .before .before .before .args .atom) (pos 0)) (6 * c .before .before .before .before .before .before .before .before .before .before .before .args .atom) (c .before .before .before .before .before .before .before .before .before .count-of .result) (c .before .before .before .before .before .before .before .before .before .before .before .args .at) (now (a .bytes)) (l .bytes) (c .before .before .put-number2 .last .0) (l .j) (l .inv)
+    row-last (l .inv) (c .before .before .put-number2 .last .0)
     (toZ w32 (ofZ w32 z)) (toZ-ofZ w32 z (record { sfits = c .before .before .before .put-number-arg4 .given })) (c .before .before .before .before .before .loop-test .left) (c .before .before .put-number2 .ensures)
     ∙ ap (sets (now (a .bytes)) (a .at)) (atom-bytes (a .question) (a .atom) _ (c .before .before .before .before .before .before .before .before .before .count-of .ensures .0))
 

@@ -86,7 +86,7 @@ loop-again c =
     let a = c .before .before .before .before .before .before .before .before .before .before .before .before .before .before .before .args in
     let l = c .before .before .before .before .before .before .before .loop in
     let q = a .question in
-    nodes-again q (a .nodes) (c .before .before .before .before .before .before .before .before .before .before .put-head .last .0) (l .bytes) (l .at) (l .atoms) (l .i) (l .inv) (c .before .before .before .before .before .before .loop-test .taken)
+    nodes-again (l .inv) (c .before .before .before .before .before .before .loop-test .taken)
     (c .before .before .before .before .put-node .last .1 .1 .1 .0) (c .before .body-length .result) (c .counted .result) (c .before .before .before .before .put-node .kept .1 .1 .1 .0) (c .before .before .before .before .put-node .ensures)
     (ap (λ (k : ℕ). length (nodeBytes q (codeNode q (l .i)) k)) (l .inv .atomsIs) ∙ long (c .before .before .before .before .before .before) ∙ ap (λ (k : ℕ). 4 + k) (sym (size (c .before)))) (c .counted .ensures)
 
@@ -101,7 +101,7 @@ returns : tie.Need-returns Inv-loop μ-loop
 returns c =
     let l = c .before .before .before .before .before .loop in
     let a = c .before .before .before .before .before .before .before .before .before .before .before .before .before .args in
-    nodes-whole (a .question) (a .nodes) (c .before .before .before .before .before .before .before .before .put-head .last .0) (l .bytes) (l .at) (l .atoms) (l .i) (l .inv) (c .before .before .before .before .loop-test .left)
+    nodes-whole (l .inv) (c .before .before .before .before .loop-test .left)
     (now (a .bytes)) (c .before .before .put-header .last .0) (c .before .before .before .before .before .before .before .before .put-head .ensures ∙ ap (sets (now (a .bytes)) 0) (sym (bytes-first (a .question)))) (c .before .before .put-header .ensures)
 
 pub put-question-spec : {M : Type 1} → statement M

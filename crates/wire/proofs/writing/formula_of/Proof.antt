@@ -37,7 +37,7 @@ loop-holds c = walking-start (c .before .args .question) (c .unread .result) (c 
 returns : tie.Need-returns Inv-loop μ-loop
 returns c =
     let l = c .before .before .before .before .before .before .before .loop in
-    walking-refused (c .before .before .before .before .before .before .before .before .before .args .question) (l .shape) (l .len) (l .inv) (c .before .before .before .before .before .before .loop-test .taken) _ (sym (answer (c .before .before .before)) ∙ c .before .refusal .given .1)
+    walking-refused (l .inv) (c .before .before .before .before .before .before .loop-test .taken) _ (sym (answer (c .before .before .before)) ∙ c .before .refusal .given .1)
 
 grown-requires : tie.Need-grown-requires Inv-loop μ-loop
 grown-requires c κs =
@@ -61,13 +61,13 @@ loop-less c = omega (arith, node (c .before) .room, grown-nodes _ _ _ (c .grown 
 loop-again : tie.Need-loop-again Inv-loop μ-loop
 loop-again c =
     let l = c .before .before .before .before .before .before .before .before .loop in
-    walking-again (c .before .before .before .before .before .before .before .before .before .before .args .question) (l .shape) (l .len) (l .inv) (c .before .before .before .before .before .before .before .loop-test .taken)
+    walking-again (l .inv) (c .before .before .before .before .before .before .before .loop-test .taken)
     (full (c .before .before .before .before .before .before .before .before .before .before)) (c .before .before .before .before .before .before .before .before .before .before .pre) _ _ (sym (answer (c .before .before .before .before)) ∙ c .before .before .code .given .1) (c .grown .result) (c .grown .ensures)
 
 returns-2 : tie.Need-returns-2 Inv-loop μ-loop
 returns-2 c =
     let l = c .before .loop in
-    walking-end (c .before .before .before .args .question) (l .shape) (l .len) (l .inv) (c .before .before .before .pre) (c .loop-test .left)
+    walking-end (l .inv) (c .before .before .before .pre) (c .loop-test .left)
 
 pub formula-of-spec : {M : Type 1} → statement M
 formula-of-spec =
