@@ -32,22 +32,29 @@ begun c =
     let a = c .before .before .before .before .args in
     λ i. onward 65 (wire.recordRead (now (a .bytes))) (going (record { question = c .before .with-head .ensures i; shape = c .unread .ensures .shape i; place = a .at }))
 
-module _ (c : tie.After-node-at Inv-loop μ-loop) where
-  answer : c .node-at .result ≡ nodeAnswer (now (c .before .before .before .before .before .before .before .before .before .args .bytes)) (c .before .before .before .before .loop .place) (c .before .before .before .before .before .before .before .count-of .result) (c .before .before .before .before .loop .shape .nodes) (c .before .before .before .before .loop .shape .atoms) (depthOf (c .before .before .before .before .loop .shape))
-  answer = c .node-at .ensures ∙ ap (nodeAnswer (now (c .before .before .before .before .before .before .before .before .before .args .bytes)) (c .before .before .before .before .loop .place) (c .before .before .before .before .before .before .before .count-of .result) (c .before .before .before .before .loop .shape .nodes) (c .before .before .before .before .loop .shape .atoms)) (c .before .count-of2 .ensures .0)
+-- the function's entry, and the head of the turn
+abbrev entry : tie.After-node-at Inv-loop μ-loop → tie.Start Inv-loop μ-loop
+entry c = c .before .before .before .before .before .before .before .before .before
 
-  refused : (r : Refusal) → c .node-at .result ≡ NodeAnswer.Refused r → stopped r ≡ formulaRead (now (c .before .before .before .before .before .before .before .before .before .args .bytes)) (c .before .before .before .before .before .before .before .before .before .args .n) (c .before .before .before .before .before .before .before .before .before .args .at)
-  refused r e = sym (left-refused (c .before .before .before .before .loop .inv) (c .before .before .before .loop-test .taken) r (sym answer ∙ e)) ∙ begun (c .before .before .before .before .before)
+abbrev turn : tie.After-node-at Inv-loop μ-loop → tie.At-loop Inv-loop μ-loop
+turn c = c .before .before .before .before
+
+module _ (c : tie.After-node-at Inv-loop μ-loop) where
+  answer : c .node-at .result ≡ nodeAnswer (now (entry c .args .bytes)) (turn c .loop .place) (c .before .before .before .before .before .before .before .count-of .result) (turn c .loop .shape .nodes) (turn c .loop .shape .atoms) (depthOf (turn c .loop .shape))
+  answer = c .node-at .ensures ∙ ap (nodeAnswer (now (entry c .args .bytes)) (turn c .loop .place) (c .before .before .before .before .before .before .before .count-of .result) (turn c .loop .shape .nodes) (turn c .loop .shape .atoms)) (c .before .count-of2 .ensures .0)
+
+  refused : (r : Refusal) → c .node-at .result ≡ NodeAnswer.Refused r → stopped r ≡ formulaRead (now (entry c .args .bytes)) (entry c .args .n) (entry c .args .at)
+  refused r e = sym (left-refused (turn c .loop .inv) (c .before .before .before .loop-test .taken) r (sym answer ∙ e)) ∙ begun (c .before .before .before .before .before)
 
   taken : (code len : ℕ) → c .node-at .result ≡ NodeAnswer.Node code len
-      → NodeTaken (now (c .before .before .before .before .before .before .before .before .before .args .bytes)) (c .before .before .before .before .loop .place) (c .before .before .before .before .loop .question .n) (c .before .before .before .before .loop .shape .nodes) (c .before .before .before .before .loop .shape .atoms) (depthOf (c .before .before .before .before .loop .shape)) code len
-  taken code len e = left-taken (c .before .before .before .before .loop .inv) (c .before .before .before .loop-test .taken) code len (sym answer ∙ e)
+      → NodeTaken (now (entry c .args .bytes)) (turn c .loop .place) (turn c .loop .question .n) (turn c .loop .shape .nodes) (turn c .loop .shape .atoms) (depthOf (turn c .loop .shape)) code len
+  taken code len e = left-taken (turn c .loop .inv) (c .before .before .before .loop-test .taken) code len (sym answer ∙ e)
 
-  few-variables : c .before .before .before .before .loop .question .n ≤ 6
-  few-variables = omega (arith, c .before .before .before .before .loop .inv .variables, c .before .before .before .before .before .before .before .count-of .ensures .0, c .before .before .before .before .before .before .before .before .before .pre .0)
+  few-variables : turn c .loop .question .n ≤ 6
+  few-variables = omega (arith, turn c .loop .inv .variables, c .before .before .before .before .before .before .before .count-of .ensures .0, c .before .before .before .before .before .before .before .before .before .pre .0)
 
 node : (c : tie.After-known-told2 Inv-loop μ-loop)
-    → NodeTaken (now (c .before .before .before .before .before .before .before .before .before .before .before .before .args .bytes)) (c .before .before .before .before .before .before .before .loop .place) (c .before .before .before .before .before .before .before .loop .question .n) (c .before .before .before .before .before .before .before .loop .shape .nodes) (c .before .before .before .before .before .before .before .loop .shape .atoms) (depthOf (c .before .before .before .before .before .before .before .loop .shape)) (c .before .code .given .0 .0) (c .before .code .given .0 .1 .0)
+    → NodeTaken (now (entry (c .before .before .before) .args .bytes)) (turn (c .before .before .before) .loop .place) (turn (c .before .before .before) .loop .question .n) (turn (c .before .before .before) .loop .shape .nodes) (turn (c .before .before .before) .loop .shape .atoms) (depthOf (turn (c .before .before .before) .loop .shape)) (c .before .code .given .0 .0) (c .before .code .given .0 .1 .0)
 node c = taken (c .before .before .before) _ _ (c .before .code .given .1)
 
 loop-holds : tie.Need-loop-holds Inv-loop μ-loop
@@ -92,7 +99,6 @@ loop-less c = omega (arith, node (c .before .before .before) .room, grown-nodes 
 
 loop-again : tie.Need-loop-again Inv-loop μ-loop
 loop-again c =
-    let a = c .before .before .before .before .before .before .before .before .before .before .before .before .before .before .before .args in
     let l = c .before .before .before .before .before .before .before .before .before .before .loop in
     let q = l .question in
     left-again (l .inv) (c .before .before .before .before .before .before .before .before .before .loop-test .taken) _ _ (sym (answer (c .before .before .before .before .before .before)) ∙ c .before .before .before .before .code .given .1)
@@ -102,7 +108,6 @@ loop-again c =
 
 returns-2 : tie.Need-returns-2 Inv-loop μ-loop
 returns-2 c =
-    let a = c .before .before .before .before .before .before .before .args in
     let l = c .before .before .loop in
     c .end-from .ensures ∙ ap partRead (sym (left-end (l .inv) (c .before .loop-test .left)) ∙ begun (c .before .before .before))
 

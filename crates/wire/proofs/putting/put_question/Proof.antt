@@ -25,20 +25,23 @@ abbrev μ-loop : tie.MeasureT-loop
 full : (c : tie.Start Inv-loop μ-loop) → length (c .args .question .coefficients) ≡ 48
 full c = search needs
 
-few : (c : tie.In-loop Inv-loop μ-loop) → isAtom (codeNode (c .before .before .before .before .before .before .before .before .before .args .question) (c .before .loop .i)) ≡ true → atomsTo (c .before .before .before .before .before .before .before .before .before .args .question) (c .before .loop .i) < 8
+abbrev entry : tie.In-loop Inv-loop μ-loop → tie.Start Inv-loop μ-loop
+entry c = c .before .before .before .before .before .before .before .before .before
+
+few : (c : tie.In-loop Inv-loop μ-loop) → isAtom (codeNode (entry c .args .question) (c .before .loop .i)) ≡ true → atomsTo (entry c .args .question) (c .before .loop .i) < 8
 few c e =
-    let a = c .before .before .before .before .before .before .before .before .before .args in
-    atoms-below (a .question) (c .before .loop .i) (a .nodes) (c .loop-test .taken) e (c .before .before .before .before .before .before .before .before .before .pre .few-atoms)
+    let a = entry c .args in
+    atoms-below (a .question) (c .before .loop .i) (a .nodes) (c .loop-test .taken) e (entry c .pre .few-atoms)
 
 long : (c : tie.In-loop Inv-loop μ-loop)
-    → length (nodeBytes (c .before .before .before .before .before .before .before .before .before .args .question) (codeNode (c .before .before .before .before .before .before .before .before .before .args .question) (c .before .loop .i)) (atomsTo (c .before .before .before .before .before .before .before .before .before .args .question) (c .before .loop .i))) ≡ 4 + bodyLength (c .before .before .before .before .before .before .before .before .before .args .question .n) (codeNode (c .before .before .before .before .before .before .before .before .before .args .question) (c .before .loop .i))
+    → length (nodeBytes (entry c .args .question) (codeNode (entry c .args .question) (c .before .loop .i)) (atomsTo (entry c .args .question) (c .before .loop .i))) ≡ 4 + bodyLength (entry c .args .question .n) (codeNode (entry c .args .question) (c .before .loop .i))
 long c =
-    let a = c .before .before .before .before .before .before .before .before .before .args in
-    node-length (a .question) (full (c .before .before .before .before .before .before .before .before .before)) (c .before .before .before .before .before .before .before .before .before .pre .variables) (codeNode (a .question) (c .before .loop .i)) _ (few c)
+    let a = entry c .args in
+    node-length (a .question) (full (entry c)) (entry c .pre .variables) (codeNode (a .question) (c .before .loop .i)) _ (few c)
 
-below : (c : tie.In-loop Inv-loop μ-loop) → c .before .loop .at + 4 + bodyLength (c .before .before .before .before .before .before .before .before .before .args .question .n) (codeNode (c .before .before .before .before .before .before .before .before .before .args .question) (c .before .loop .i)) ≤ length (bytesTo (c .before .before .before .before .before .before .before .before .before .args .question) (c .before .before .before .before .before .before .before .before .before .args .nodes))
+below : (c : tie.In-loop Inv-loop μ-loop) → c .before .loop .at + 4 + bodyLength (entry c .args .question .n) (codeNode (entry c .args .question) (c .before .loop .i)) ≤ length (bytesTo (entry c .args .question) (entry c .args .nodes))
 below c =
-    let a = c .before .before .before .before .before .before .before .before .before .args in
+    let a = entry c .args in
     let l = c .before .loop in
     omega (arith, l .inv .atIs, long c, length-below (a .question) (l .i) (a .nodes) (c .loop-test .taken))
 

@@ -36,11 +36,14 @@ atom c = sym (c .before .before .before .before .is-atom .ensures) ∙ not-false
 exact : (c : tie.Else3) → c .before .before .before .before .before .before .frame .given .0 .1 .0 ≡ 4 * (c .before .before .before .before .before .before .before .before .before .before .args .n + 1)
 exact c = atom-size _ _ _ _ _ (node (c .before .before .before .before .before)) (atom c)
 
+abbrev entry : tie.After-numbers-fit → tie.Start
+entry c = c .before .before .before .before .before .before .before .before .before .before .before .before
+
 fit : (c : tie.After-numbers-fit) (t : Bool) → c .numbers-fit .result ≡ t
-    → numbersFit (numbersAt (c .before .before .before .before .before .before .before .before .before .before .before .before .args .n) (partOf (now (c .before .before .before .before .before .before .before .before .before .before .before .before .args .bytes)) (c .before .before .before .before .before .before .before .before .before .before .before .before .args .at + 4) (c .before .before .before .before .before .before .before .before .frame .given .0 .1 .0)) 0)
-    (numberAt (partOf (now (c .before .before .before .before .before .before .before .before .before .before .before .before .args .bytes)) (c .before .before .before .before .before .before .before .before .before .before .before .before .args .at + 4) (c .before .before .before .before .before .before .before .before .frame .given .0 .1 .0)) (4 * c .before .before .before .before .before .before .before .before .before .before .before .before .args .n)) ≡ t
+    → numbersFit (numbersAt (entry c .args .n) (partOf (now (entry c .args .bytes)) (entry c .args .at + 4) (c .before .before .before .before .before .before .before .before .frame .given .0 .1 .0)) 0)
+    (numberAt (partOf (now (entry c .args .bytes)) (entry c .args .at + 4) (c .before .before .before .before .before .before .before .before .frame .given .0 .1 .0)) (4 * entry c .args .n)) ≡ t
 fit c t e =
-    let a = c .before .before .before .before .before .before .before .before .before .before .before .before .args in
+    let a = entry c .args in
     ap (λ (l : List ℕ). numbersFit (numbersAt (a .n) l 0) (numberAt l (4 * a .n))) (sym (c .before .body .ensures))
     ∙ sym (c .numbers-fit .ensures) ∙ e
 

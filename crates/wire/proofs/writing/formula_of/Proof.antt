@@ -22,13 +22,20 @@ abbrev μ-loop : tie.MeasureT-loop
 full : (c : tie.Start Inv-loop μ-loop) → length (c .args .question .coefficients) ≡ 48
 full c = search needs
 
-answer : (c : tie.After-code-at Inv-loop μ-loop) → c .code-at .result ≡ codeAnswer (c .before .before .before .before .before .before .args .question) (c .before .before .before .before .loop .shape .nodes) (c .before .before .before .before .loop .shape .atoms) (depthOf (c .before .before .before .before .loop .shape))
+-- the function's entry, and the head of the turn
+abbrev entry : tie.After-code-at Inv-loop μ-loop → tie.Start Inv-loop μ-loop
+entry c = c .before .before .before .before .before .before
+
+abbrev turn : tie.After-code-at Inv-loop μ-loop → tie.At-loop Inv-loop μ-loop
+turn c = c .before .before .before .before
+
+answer : (c : tie.After-code-at Inv-loop μ-loop) → c .code-at .result ≡ codeAnswer (entry c .args .question) (turn c .loop .shape .nodes) (turn c .loop .shape .atoms) (depthOf (turn c .loop .shape))
 answer c =
-    let l = c .before .before .before .before .loop in
-    c .code-at .ensures ∙ ap (codeAnswer (c .before .before .before .before .before .before .args .question) (l .shape .nodes) (l .shape .atoms)) (c .before .count-of .ensures .0)
+    let l = turn c .loop in
+    c .code-at .ensures ∙ ap (codeAnswer (entry c .args .question) (l .shape .nodes) (l .shape .atoms)) (c .before .count-of .ensures .0)
 
 node : (c : tie.After-known-told2 Inv-loop μ-loop)
-    → CodeTaken (c .before .before .before .before .before .before .before .before .before .args .question) (c .before .before .before .before .before .before .before .loop .shape .nodes) (c .before .before .before .before .before .before .before .loop .shape .atoms) (depthOf (c .before .before .before .before .before .before .before .loop .shape)) (c .before .code .given .0 .0) (c .before .code .given .0 .1 .0)
+    → CodeTaken (entry (c .before .before .before) .args .question) (turn (c .before .before .before) .loop .shape .nodes) (turn (c .before .before .before) .loop .shape .atoms) (depthOf (turn (c .before .before .before) .loop .shape)) (c .before .code .given .0 .0) (c .before .code .given .0 .1 .0)
 node c = code-taken _ _ _ _ _ _ (sym (answer (c .before .before .before)) ∙ c .before .code .given .1)
 
 loop-holds : tie.Need-loop-holds Inv-loop μ-loop
