@@ -1,18 +1,16 @@
 -- The lengths of a question's bytes.
 use mathlib.Core.Path.{_≡_, refl, _∙_}
 use mathlib.Core.Bool.{Bool, true, false, cond}
-use mathlib.Core.List.{List, [], _∷_, _++_, map}
+use mathlib.Core.List.{List, [], _∷_, _++_}
 use Prim.Native.Nat.{ℕ, _+_, _*_, _<_, _≤_}
 use native.Mathlib.Omega.{arith}
 use native.Mathlib.Numerals.{add-one}
-use lib.IntN.{ℤ}
-use lib.ListN.{length, drop, length-append, length-drop}
+use lib.ListN.{length, drop, length-drop}
 use lib.Seq.{length-take-le}
 use Rattle.scope.specs.declared.Question.{Question}
-use Rattle.scope.specs.Whole.{joined}
 use Rattle.scope.specs.Question.{Node, isAtom, coefficientsOf, constantOf}
 use Rattle.scope.specs.Wire.{headKind, kindOf, bodyLength}
-use Rattle.scope.specs.Writing.{numberBytes, recordBytes, atomBody, nodeBytes}
+use Rattle.scope.specs.Writing.{recordBytes, atomBody, nodeBytes}
 use Rattle.theory.specs.Records.{body-length}
 use Rattle.wire.specs.Writes.{codeNode, atomsTo, bytesTo}
 

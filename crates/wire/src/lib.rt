@@ -4,9 +4,9 @@ ghost use Prim.Native.Nat.{_≤_};
 ghost use lib.ListN.{length};
 ghost use Rattle.scope.specs.Refusals.{stopped};
 ghost use Rattle.scope.specs.Wire.{recordAt, readFrom, readHeld};
+ghost use Rattle.wire.specs.Answers.{partRead, headed, formulaRead, endFrom};
 ghost use Rattle.wire.specs.Steps.{partOf};
 ghost use Rattle.wire.specs.Writes.{Writes};
-ghost use Rattle.wire.specs.Answers.{partRead, headed, formulaRead, endFrom};
 
 mod numbers;
 mod putting;
