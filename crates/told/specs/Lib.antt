@@ -3,4 +3,5 @@ pub mod Decimal
 pub mod Text
 pub mod Writers
 pub mod Values
+pub mod Told
 pub mod Examples

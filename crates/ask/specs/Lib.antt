@@ -1,0 +1,2 @@
+-- What the asking program answers, by the definitions.
+pub mod Asked

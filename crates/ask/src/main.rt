@@ -1,0 +1,40 @@
+// The asking program: reads a question from standard input, decides it and prints the answer. What is printed is told of the first 1,024 bytes.
+use libc::STDIN_FILENO;
+use libc::STDOUT_FILENO;
+ghost use mathlib.Core.Path.{_≡_};
+ghost use Rattle.told.specs.Text.{telling, told};
+ghost use Rattle.ask.specs.Asked.{variables, decidedFor};
+
+// The bytes that decide.
+const QUESTION: usize = 1_024;
+
+// Room for 1,024 states of up to 8 atoms, and for 1,024 letters.
+const KEYS: usize = 8_192;
+
+const PATH: usize = 2_048;
+
+const WORD: usize = 1_024;
+
+// Room for every text.
+const TEXT: usize = 4_352;
+
+// Puts the text of the answer to a question at the front of out, and answers its length; 0, and out as it was, where out is too short.
+fn answer_to(question: &[u8], out: &mut [u8]) -> usize
+    ensures { λ r. ⌜ telling r (now (out .exit)) ≡ told (variables (now (question .entry))) (decidedFor (now (question .entry)) .answer) (decidedFor (now (question .entry)) .word) (now (out .entry)) ⌝ }
+{
+    let mut keys = [0i32; KEYS];
+    let mut path = [0u16; PATH];
+    let mut word = [0u8; WORD];
+    let answer = decide::decide(question, &mut keys, &mut path, &mut word);
+    let held = wire::read(question);
+    let question = held.question;
+    told::tell(question.n as usize, answer, &word, out)
+}
+
+fn main() {
+    let mut question = [0u8; QUESTION];
+    let count = io::read_full(STDIN_FILENO, &mut question);
+    let mut text = [0u8; TEXT];
+    let length = answer_to(&question[..count], &mut text);
+    io::write_all(STDOUT_FILENO, &text[..length]);
+}
