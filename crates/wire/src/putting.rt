@@ -47,7 +47,7 @@ pub fn put_atom(question: Question, atom: usize, bytes: &mut [u8], at: usize)
     let n = count_of(question.n);
     let coefficients = question.coefficients;
     let constants = question.constants;
-    let row = 6 * atom;
+    let row = Question::VARIABLES * atom;
     let mut j = 0;
     while j < n {
         put_number(bytes, at + 4 * j, coefficients[row + j]);

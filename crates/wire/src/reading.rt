@@ -211,7 +211,7 @@ pub fn noted(question: Question, code: u8, nodes: usize, atoms: usize, body: &[u
         };
     }
     constants[atoms] = number_at(body, 4 * n);
-    let all = with_numbers(coefficients, 6 * atoms, body, n);
+    let all = with_numbers(coefficients, Question::VARIABLES * atoms, body, n);
     Question {
         n: small,
         codes,

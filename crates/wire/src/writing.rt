@@ -21,6 +21,9 @@ use crate::shape::unread;
 use scope::Question;
 use scope::Refusal;
 
+// The coefficients that a question holds.
+const CELLS: usize = Question::VARIABLES * Question::ATOMS;
+
 // The formula's nodes and atoms, and the bytes of the head and its nodes.
 pub enum FormulaAnswer {
     Formula {
@@ -54,7 +57,7 @@ pub fn atom_fits(question: Question, atom: usize) -> bool
     let n = count_of(question.n);
     let coefficients = question.coefficients;
     let constants = question.constants;
-    if row_fits(coefficients, 6 * atom, n) {
+    if row_fits(coefficients, Question::VARIABLES * atom, n) {
         return constant_fits(constants[atom]);
     }
     false
@@ -135,7 +138,7 @@ pub fn code_left(codes: [u8; 64], from: usize) -> usize
     ensures { λ r. ⌜ CodeLeft codes from r ⌝ }
 {
     let mut i = from;
-    while i < 64 {
+    while i < Question::NODES {
         if codes[i] != 0 {
             return i;
         }
@@ -149,7 +152,7 @@ pub fn coefficients_clear(coefficients: [i32; 48], n: usize, atoms: usize) -> bo
     ensures { λ r. ⌜ r ≡ allFrom (coefficientClear n atoms) 0 coefficients ⌝ }
 {
     let mut cell = 0;
-    while cell < 48 {
+    while cell < CELLS {
         if !cell_clear(coefficients[cell], cell, n, atoms) {
             return false;
         }
@@ -161,8 +164,8 @@ pub fn coefficients_clear(coefficients: [i32; 48], n: usize, atoms: usize) -> bo
 pub fn cell_clear(number: i32, cell: usize, n: usize, atoms: usize) -> bool
     ensures { λ r. ⌜ r ≡ coefficientClear n atoms cell number ⌝ }
 {
-    if cell % 6 < n {
-        if cell / 6 < atoms {
+    if cell % Question::VARIABLES < n {
+        if cell / Question::VARIABLES < atoms {
             return true;
         }
     }
@@ -174,7 +177,7 @@ pub fn constants_clear(constants: [i32; 8], atoms: usize) -> bool
     ensures { λ r. ⌜ r ≡ allFrom (constantClear atoms) 0 constants ⌝ }
 {
     let mut i = 0;
-    while i < 8 {
+    while i < Question::ATOMS {
         if !constant_clear(constants[i], i, atoms) {
             return false;
         }
@@ -220,7 +223,7 @@ pub fn checked(question: Question) -> FormulaAnswer
     };
     let codes = question.codes;
     let left = code_left(codes, nodes);
-    if left < 64 {
+    if left < Question::NODES {
         return FormulaAnswer::Refused(Refusal {
             number: 6,
             place: left,
@@ -231,6 +234,6 @@ pub fn checked(question: Question) -> FormulaAnswer
     }
     FormulaAnswer::Refused(Refusal {
         number: 6,
-        place: 64,
+        place: Question::NODES,
     })
 }
