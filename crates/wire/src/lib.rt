@@ -32,6 +32,7 @@ use scope::ReadAnswer;
 use scope::RecordAnswer;
 use scope::Refusal;
 use scope::WriteAnswer;
+use shape::DUE;
 use shape::grown;
 use shape::unread;
 use writing::FormulaAnswer;
@@ -131,7 +132,7 @@ fn formula_from(bytes: &[u8], at: usize, n: u8) -> ReadPart
     let mut question = with_head(n);
     let mut shape = unread();
     let mut place = at;
-    while shape.top < 66 {
+    while shape.top < DUE {
         let top = shape.top;
         let nodes = shape.nodes;
         let atoms = shape.atoms;

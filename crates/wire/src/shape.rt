@@ -4,13 +4,17 @@ ghost use Prim.Native.Nat.{_+_, _*_, _≤_, _<_};
 ghost use lib.ListN.{getD};
 ghost use Rattle.scope.specs.Question.{nodeOf, isAtom};
 ghost use Rattle.wire.specs.Formula.{Open, Grown, Unread};
+use scope::Question;
+
+// Room for the parts that can be due: no more than there are nodes, and one.
+pub const DUE: usize = Question::NODES + 2;
 
 // Its nodes and atoms so far. The depths of the parts still due stand in due from top on, the next one first.
 pub struct Shape {
     pub nodes: usize,
     pub atoms: usize,
     pub top: usize,
-    pub due: [u8; 66],
+    pub due: [u8; DUE],
 }
 
 // One formula is due, its root at depth 1.
@@ -20,8 +24,8 @@ pub fn unread() -> Shape
     Shape {
         nodes: 0,
         atoms: 0,
-        top: 65,
-        due: [1u8; 66],
+        top: DUE - 1,
+        due: [1u8; DUE],
     }
 }
 

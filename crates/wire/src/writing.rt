@@ -15,6 +15,7 @@ use crate::reading::NodeAnswer;
 use crate::reading::body_length;
 use crate::reading::sized;
 use crate::records::count_of;
+use crate::shape::DUE;
 use crate::shape::grown;
 use crate::shape::is_atom;
 use crate::shape::unread;
@@ -114,7 +115,7 @@ pub fn formula_of(question: Question) -> FormulaAnswer
 {
     let mut shape = unread();
     let mut len = 5;
-    while shape.top < 66 {
+    while shape.top < DUE {
         let top = shape.top;
         let depth = count_of(shape.due[top]);
         match code_at(question, shape.nodes, shape.atoms, depth) {
