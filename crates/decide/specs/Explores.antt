@@ -1,5 +1,5 @@
--- Exploring a question from its start: what it asks and what it leaves; that a row found in it can be read off the path area, and
--- that the answer made of it is that of document 01's definitions.
+-- What exploring a question from its start leaves; that a row found in it can be read off the path area, and that the answer made of it
+-- is that of document 01's definitions.
 use mathlib.Core.Path.{_≡_, refl, sym, ap, _∙_}
 use mathlib.Core.Bool.{true}
 use mathlib.Core.List.{List, [], _∷_, append-nil}
@@ -15,41 +15,25 @@ use Rattle.scope.specs.declared.DecideAnswer.{DecideAnswer}
 use Rattle.scope.specs.Whole.{joined, atFront}
 use Rattle.scope.specs.Question.{atomsOf, atomCount}
 use Rattle.scope.specs.States.{State, cellsOf, startOf}
-use Rattle.scope.specs.Numbering.{Machine, Row, Rows, machineOf, startRow, row, numbered}
-use Rattle.scope.specs.Deciding.{Verdict, found, never, noRoom, verdict, counted, decideRoom, keyCells, pathCells, decideAnswer, wordAfter, decidedQuestion}
+use Rattle.scope.specs.Numbering.{Row, Rows, machineOf, startRow, row}
+use Rattle.scope.specs.Deciding.{Verdict, found, never, noRoom, counted, decideRoom, keyCells, pathCells, decideAnswer, wordAfter, decidedQuestion}
 use Rattle.theory.specs.Lawful.{machine-lawful}
 use Rattle.theory.specs.Table.{Rooted, numbered-rooted}
 use Rattle.theory.specs.Exploring.{start-found, start-counted, no-rows}
-use Rattle.theory.specs.Simulation.{Simulates, states-map, paths-map, same-verdict, same-length, same-counted}
 use Rattle.theory.specs.Joined.{joined-at, atFront-before, atFront-length}
 use Rattle.theory.specs.Lengths.{path-length, keys-length, counted-are}
 use Rattle.theory.specs.Deciding.{rowsOf, rowWord, verdictOf, countedRows, FoundAt, found-exactly}
-use Rattle.theory.specs.Accepted.{WithinLimits}
-use Rattle.step.specs.Eight.{padded}
-use Rattle.step.specs.Cells.{kindCodes}
 use Rattle.step.specs.Laws.{start-cells}
 use Rattle.explore.specs.declared.Explored.{Explored}
-use Rattle.explore.specs.Areas.{rowCells, pathRows, front-twice}
-use Rattle.explore.specs.Outcome.{exploredAs, Numbered}
+use Rattle.explore.specs.Areas.{pathRows, front-twice}
+use Rattle.explore.specs.Outcome.{exploredAs}
+use Rattle.explore.specs.Simulated.{NumberedQuestion}
 use Rattle.decide.specs.Path.{fromAt, letterAt, rows-linked, rows-word}
 use Rattle.decide.specs.Start.{StartPut}
+use Rattle.decide.specs.Lends.{Lends, keys-long}
 use Rattle.decide.specs.Decides.{Decides, wordFound, answerBy, wordBy, Answers, Spelt, SpeltIf}
 
--- a question by its parts
-abbrev pub heldQuestion : ℕ → List ℕ → List ℤ → List ℤ → Question
-heldQuestion n codes coefficients constants = record { n = n; codes = codes; coefficients = coefficients; constants = constants }
-
--- what exploring asks
-pub record Lends (q : Question) (kinds : List ℕ) (m rows : ℕ) (keys : List ℤ) (path : List ℕ) : Type 0 where
-  pub limits : WithinLimits q
-  pub kinds-are : kinds ≡ padded 0 (kindCodes (q .codes))
-  pub count : m ≡ atomCount q
-  pub some-rows : 0 < rows
-  pub few-rows : rows ≤ 65535
-  pub keys-room : rows * m ≤ length keys
-  pub path-room : 2 * rows ≤ length path
-
--- what it leaves
+-- where so many rows are lent
 pub record Explores (q : Question) (rows : ℕ) (keys₀ : List ℤ) (path₀ : List ℕ) (keys₁ : List ℤ) (path₁ : List ℕ) (explored : Explored) : Type 0 where
   pub answer : explored ≡ exploredAs (verdictOf q rows) rows (length (rowsOf q rows))
   pub keys : keys₁ ≡ atFront (keyCells (countedRows q rows)) keys₀
@@ -72,7 +56,7 @@ module _ (q : Question) {kinds : List ℕ} {m rows : ℕ} {keys₀ : List ℤ} {
       let c = start-counted (machineOf q) rows in
       record { answer = rw v; keys = rw (v, c, start-row-cells) (put .keys-are); path = rw (v, c) (put .path-is) }
 
-  -- ---- and where it does not, by a machine that does the same
+  -- ---- and where it does not
 
   some-counted : (v : Verdict) (l : Rows State) → 0 < length l → 0 < length (counted v rows l)
   some-counted (found w) l h = omega (arith, length-take (suc w) l)
@@ -82,36 +66,23 @@ module _ (q : Question) {kinds : List ℕ} {m rows : ℕ} {keys₀ : List ℤ} {
   counted-some : 0 < length (countedRows q rows)
   counted-some = some-counted (verdictOf q rows) (rowsOf q rows) (numbered-rooted (machineOf q) (machine-lawful q) rows .not-empty)
 
-  keys-enough : m ≤ length keys₀
-  keys-enough = omega (arith, rw one-mul at (mul-le-mul-right m (ask .some-rows)), ask .keys-room)
-
   keys-longer : m ≤ length (keyCells (countedRows q rows))
   keys-longer =
       let c = counted-are q rows (verdictOf q rows) refl in
       let e : length (keyCells (countedRows q rows)) ≡ length (countedRows q rows) * atomCount q = rw (c .are) (keys-length q rows (c .k)) in
       rw (e, ask .count) (rw one-mul at (mul-le-mul-right (atomCount q) counted-some))
 
-  module _ {M : Machine (List ℤ)} {Good : State → Type 0} (same : Simulates (machineOf q) M cellsOf Good) where
-    same-keys : rowCells (counted (verdict M rows (numbered M rows)) rows (numbered M rows)) ≡ keyCells (countedRows q rows)
-    unfolding rowCells keyCells
-    same-keys = rw (same-verdict same rows rows, same-counted same rows (verdictOf q rows) rows) (ap joined (states-map cellsOf (λ s. s) (countedRows q rows)))
-
-    same-path : pathRows true (counted (verdict M rows (numbered M rows)) rows (numbered M rows)) ≡ pathCells (countedRows q rows)
-    unfolding pathRows pathCells
-    same-path =
-        rw (same-verdict same rows rows, same-counted same rows (verdictOf q rows) rows)
-        (ap joined (paths-map cellsOf (λ from letter. from ∷ letter ∷ []) (countedRows q rows)))
-
-    pub explores-on : {keys : List ℤ} {path : List ℕ} {r : Explored} → Numbered M rows true keys₁ path₁ keys path r → Explores q rows keys₀ path₀ keys path r
-    explores-on n = record {
-      answer = n .answer ∙ rw (same-verdict same rows rows, same-length same rows);
-      keys =
-          n .keys-after ∙ rw (same-keys, put .keys-are)
-          (front-twice (take m (q .constants)) (keyCells (countedRows q rows)) keys₀ (omega (arith, length-take m (q .constants), keys-longer)) (omega (arith, length-take m (q .constants), keys-enough)));
-      path =
-          n .path-after ∙ rw (same-path, put .path-is)
-          (front-twice (0 ∷ 0 ∷ []) (pathCells (countedRows q rows)) path₀ (omega (arith, path-length (countedRows q rows), counted-some)) (omega (arith, ask)));
-    }
+  pub explores-on : {keys : List ℤ} {path : List ℕ} {r : Explored} → NumberedQuestion q rows true keys₁ path₁ keys path r → Explores q rows keys₀ path₀ keys path r
+  unfolding pathRows pathCells
+  explores-on n = record {
+    answer = n .answer;
+    keys =
+        n .keys-after ∙ rw (put .keys-are)
+        (front-twice (take m (q .constants)) (keyCells (countedRows q rows)) keys₀ (omega (arith, length-take m (q .constants), keys-longer)) (omega (arith, length-take m (q .constants), keys-long ask)));
+    path =
+        n .path-after ∙ rw (put .path-is)
+        (front-twice (0 ∷ 0 ∷ []) (pathCells (countedRows q rows)) path₀ (omega (arith, path-length (countedRows q rows), counted-some)) (omega (arith, ask)));
+  }
 
 -- ---- the answer
 

@@ -1,8 +1,7 @@
--- What deciding leaves, the word that a path area spells, and the areas with the start in them.
-pub mod Decides
+-- What deciding leaves; the word that a path area spells; and how exploring a question comes to its answer.
 pub mod Path
+pub mod Decides
 pub mod Start
-pub mod Simulated
+pub mod Lends
 pub mod Explores
 pub mod Handed
-pub mod Room

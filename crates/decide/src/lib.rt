@@ -16,7 +16,8 @@ ghost use Rattle.scope.specs.Sizes.{mostStates};
 ghost use Rattle.scope.specs.Deciding.{decidedQuestion, decided};
 ghost use Rattle.theory.specs.Accepted.{WithinLimits};
 ghost use Rattle.decide.specs.Decides.{Decides, Answers, Spelt, SpeltIf};
-ghost use Rattle.decide.specs.Explores.{heldQuestion, Lends, Explores};
+ghost use Rattle.decide.specs.Explores.{Explores};
+ghost use Rattle.decide.specs.Lends.{heldQuestion, Lends};
 ghost use Rattle.decide.specs.Path.{pathWord, Linked};
 ghost use Rattle.decide.specs.Start.{StartPut};
 

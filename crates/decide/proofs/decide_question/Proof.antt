@@ -3,8 +3,8 @@ use mathlib.Core.Path.{_≡_}
 use Rattle.scope.specs.Deciding.{decideRoom}
 use borrow.Author.Needs.{needs}
 use Rattle.step.specs.Atoms.{few-kinds}
-use Rattle.decide.specs.Explores.{heldQuestion, Lends, spelt, decides, decides-nothing}
-use Rattle.decide.specs.Room.{some-atoms, room-is, lends}
+use Rattle.decide.specs.Explores.{spelt, decides, decides-nothing}
+use Rattle.decide.specs.Lends.{heldQuestion, Lends, some-atoms, room-is, lends}
 use Rattle.decide.proofs.decide_question.Statement.{statement}
 use Rattle.decide.proofs.decide_question.Tie as tie
 

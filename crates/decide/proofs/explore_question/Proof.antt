@@ -3,7 +3,8 @@ use mathlib.Core.Bool.{true, false}
 use native.Mathlib.Omega.{arith}
 use borrow.Author.Needs.{needs}
 use Rattle.decide.specs.Explores.{explores-start, explores-on}
-use Rattle.decide.specs.Handed.{atoms-few, constants-long, keys-long, sums-asked, keys-length, start-accepts, task, same, ready}
+use Rattle.decide.specs.Lends.{atoms-few, constants-long, keys-long, sums-asked}
+use Rattle.decide.specs.Handed.{keys-length, start-accepts, task, numbered, ready}
 use Rattle.decide.proofs.explore_question.Statement.{statement}
 use Rattle.decide.proofs.explore_question.Tie as tie
 
@@ -44,13 +45,13 @@ number-rows-requires c κs =
 
 returns-2 : tie.Need-returns-2
 returns-2 c =
-    let numbered = c .before .before .before in
-    let letters = numbered .before .before .before .letters in
-    let tested = numbered .before .before .before .before .before .before in
+    let left = c .before .before .before in
+    let letters = left .before .before .before .letters in
+    let tested = left .before .before .before .before .before .before in
     let put = tested .before .before .before .before .before .put-start .ensures in
     let sums = tested .before .before .before .before .before .before .before .before .letter-sums in
     let ask = tested .before .before .before .before .before .before .before .before .before .before .pre in
-    explores-on _ ask put (same ask put (sums .result) (sums .ensures) (letters .result) (letters .ensures .0)) (numbered .number-rows .ensures)
+    explores-on _ ask put (numbered ask put (sums .result) (sums .ensures) (letters .result) (letters .ensures .0) (left .number-rows .ensures))
 
 pub explore-question-spec : {M : Type 1} → statement M
 explore-question-spec =

@@ -1,0 +1,69 @@
+-- What exploring a question asks of the arrays and areas that it is lent, and that the code's least of three numbers is R, the rows lent.
+use mathlib.Core.Path.{_≡_, _∙_}
+use mathlib.Core.List.{List}
+use Prim.Native.Nat.{ℕ, _*_, _/_, _≤_, _<_, min}
+use native.Mathlib.Nat.{mul-le-mul-right, one-mul, div-mul-le-self}
+use native.Mathlib.Omega.{arith}
+use lib.ListN.{length}
+use lib.IntN.{ℤ}
+use Rattle.scope.specs.declared.Question.{Question}
+use Rattle.scope.specs.Sizes.{mostStates}
+use Rattle.scope.specs.Question.{atomCount}
+use Rattle.scope.specs.Deciding.{decideRoom}
+use Rattle.theory.specs.Answers.{atom-count}
+use Rattle.theory.specs.Accepted.{WithinLimits}
+use Rattle.step.specs.Eight.{padded}
+use Rattle.step.specs.Cells.{kindCodes, Coefficients}
+use Rattle.step.specs.Atoms.{kinds-count, few-atoms, coefficients-fit}
+
+-- a question by its parts
+abbrev pub heldQuestion : ℕ → List ℕ → List ℤ → List ℤ → Question
+heldQuestion n codes coefficients constants = record { n = n; codes = codes; coefficients = coefficients; constants = constants }
+
+-- what exploring asks
+pub record Lends (q : Question) (kinds : List ℕ) (m rows : ℕ) (keys : List ℤ) (path : List ℕ) : Type 0 where
+  pub limits : WithinLimits q
+  pub kinds-are : kinds ≡ padded 0 (kindCodes (q .codes))
+  pub count : m ≡ atomCount q
+  pub some-rows : 0 < rows
+  pub few-rows : rows ≤ 65535
+  pub keys-room : rows * m ≤ length keys
+  pub path-room : 2 * rows ≤ length path
+
+module _ {q : Question} {kinds : List ℕ} {m rows : ℕ} {keys₀ : List ℤ} {path₀ : List ℕ} (ask : Lends q kinds m rows keys₀ path₀) where
+  pub atoms-few : m ≤ 8
+  atoms-few = rw (ask .count) (few-atoms (ask .limits))
+
+  pub constants-long : m ≤ length (q .constants)
+  constants-long = omega (arith, atoms-few, ask .limits .sized .constants)
+
+  pub keys-long : m ≤ length keys₀
+  keys-long = omega (arith, rw one-mul at (mul-le-mul-right m (ask .some-rows)), ask .keys-room)
+
+  pub sums-asked : Coefficients (q .n) m (q .coefficients)
+  sums-asked = rw (ask .count) (coefficients-fit (ask .limits))
+
+-- ---- R
+
+module _ {q : Question} (w : WithinLimits q) {m : ℕ} (counts : m ≡ length (kindCodes (q .codes))) where
+  count-is : m ≡ atomCount q
+  count-is = counts ∙ kinds-count q
+
+  pub some-atoms : 0 < m
+  some-atoms = omega (arith, count-is, atom-count q, w .some-atom)
+
+  module _ {rows : ℕ} (keys : List ℤ) (path : List ℕ) (least : rows ≡ min (min (length keys / m) (length path / 2)) mostStates) where
+    pub room-is : rows ≡ decideRoom q keys path
+    unfolding decideRoom
+    room-is = rw (← count-is) least
+
+    pub lends : {kinds : List ℕ} → kinds ≡ padded 0 (kindCodes (q .codes)) → ¬ (rows ≡ 0) → Lends q kinds m rows keys path
+    lends k some = record {
+      limits = w;
+      kinds-are = k;
+      count = count-is;
+      some-rows = omega arith;
+      few-rows = omega arith;
+      keys-room = let h : rows ≤ length keys / m = omega arith in omega (arith, mul-le-mul-right m h, div-mul-le-self (length keys) m);
+      path-room = omega arith;
+    }
