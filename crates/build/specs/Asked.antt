@@ -35,8 +35,8 @@ use Rattle.index.specs.Rows.{stored-at-front}
 use Rattle.theory.specs.Answers.{atom-count}
 use Rattle.theory.specs.Accepted.{WithinLimits, accepted-within}
 use Rattle.step.specs.Eight.{padded}
-use Rattle.step.specs.Cells.{kindCodes, Sums}
-use Rattle.step.specs.Atoms.{few-atoms, kinds-count}
+use Rattle.step.specs.Cells.{kindCodes, Coefficients, Sums}
+use Rattle.step.specs.Atoms.{few-atoms, kinds-count, coefficients-fit}
 use Rattle.step.specs.Laws.{Tables, KeyRow, start-cells}
 use Rattle.explore.specs.Areas.{rowCells, front-twice}
 use Rattle.explore.specs.Standing.{Task}
@@ -75,103 +75,103 @@ module _ (q : Question) {M : Machine (List ℤ)} {Good : State → Type 0} (same
   pub filled-question : filled M rows (atFront start keys) table ≡ builtOf q rows keys table
   filled-question = rw (same-length same rows) (filled-as (leb (length (rowsOf q rows)) rows))
 
--- ---- a question's arrays, the rows lent, and the constants stored as row 0 of the keys
+-- ---- an accepted question, its kinds, its letters, and the rows lent
 
-pub record Prepared (q : Question) (kinds : List ℕ) (m : ℕ) (sums : List ℤ) (letters rows : ℕ) (keys₀ keys₁ : List ℤ) (table : List ℕ) : Type 0 where
-  pub tables : Tables q kinds m sums
+pub record Lends (q : Question) (kinds : List ℕ) (m letters rows : ℕ) (keys : List ℤ) (table : List ℕ) : Type 0 where
+  pub limits : WithinLimits q
+  pub kinds-are : (kinds ≡ padded 0 (kindCodes (q .codes))) × (m ≡ length (kindCodes (q .codes)))
   pub letters-are : letters ≡ 2 ^ q .n
-  pub rows-are : rows ≡ buildRoom q keys₀ table
+  pub rows-are : rows ≡ buildRoom q keys table
   pub some-rows : 0 < rows
-  pub stored : keys₁ ≡ paste keys₀ (0 * m) (q .constants) m
 
--- from what the code works out
-pub tables-are : {q : Question} {kinds : List ℕ} {m : ℕ} {sums : List ℤ} → WithinLimits q → (kinds ≡ padded 0 (kindCodes (q .codes))) × (m ≡ length (kindCodes (q .codes)))
-    → Sums (q .n) m (q .coefficients) sums → Tables q kinds m sums
-tables-are {q} w k s = record { limits = w; kinds-are = k .0; count = k .1 ∙ kinds-count q; sums-are = s }
+pub some-atoms : {q : Question} → WithinLimits q → 0 < length (kindCodes (q .codes))
+some-atoms {q} w = rw (kinds-count q, atom-count q) (w .some-atom)
 
 pub room-is : (q : Question) (m letters rows : ℕ) (keys : List ℤ) (table : List ℕ) → m ≡ length (kindCodes (q .codes)) → letters ≡ 2 ^ q .n
     → rows ≡ min (min (length keys / m) (length table / (1 + letters))) mostStates → rows ≡ buildRoom q keys table
 unfolding buildRoom
 room-is q m letters rows keys table e f g = g ∙ rw (e, kinds-count q, f)
 
-pub some-atoms : {q : Question} → WithinLimits q → 0 < length (kindCodes (q .codes))
-some-atoms {q} w = rw (kinds-count q, atom-count q) (w .some-atom)
-
 rows-fit : (rows w size : ℕ) → rows ≤ size / w → rows * w ≤ size
 rows-fit rows w size h = omega (arith, mul-le-mul-right w h, div-mul-le-self size w)
 
-key-rows-fit : (q : Question) (rows : ℕ) (keys : List ℤ) (table : List ℕ) → rows ≡ buildRoom q keys table → rows * atomCount q ≤ length keys
-key-rows-fit q rows keys table is = rows-fit rows (atomCount q) (length keys) (rw is (build-room-keys q keys table))
+module _ {q : Question} {kinds : List ℕ} {m letters rows : ℕ} {keys : List ℤ} {table : List ℕ} (l : Lends q kinds m letters rows keys table) where
+  atoms : m ≡ atomCount q
+  atoms = l .kinds-are .1 ∙ kinds-count q
 
-pub start-fits-in : (q : Question) (m rows : ℕ) (keys : List ℤ) (table : List ℕ) → m ≡ length (kindCodes (q .codes)) → rows ≡ buildRoom q keys table → 0 < rows
-    → 0 * m + m ≤ length keys
-start-fits-in q m rows keys table e is some =
-    let h : 1 * atomCount q ≤ rows * atomCount q = mul-le-mul-right (atomCount q) some in
-    rw (zero-mul, zero-add, e, kinds-count q) (omega (arith, key-rows-fit q rows keys table is))
+  few-cells : m ≤ 8
+  few-cells = rw atoms (few-atoms (l .limits))
 
-module _ {q : Question} {kinds : List ℕ} {m : ℕ} {sums : List ℤ} {letters rows : ℕ} {keys₀ keys₁ : List ℤ} {table : List ℕ}
-    (p : Prepared q kinds m sums letters rows keys₀ keys₁ table) where
-  keys-room : rows * m ≤ length keys₀
-  keys-room = rw (p .tables .count) (key-rows-fit q rows keys₀ table (p .rows-are))
+  keys-room : rows * m ≤ length keys
+  keys-room = rows-fit rows m (length keys) (rw (atoms, l .rows-are) (build-room-keys q keys table))
 
   few-rows : rows ≤ 65535
   unfolding buildRoom
-  few-rows = omega (arith, p .rows-are)
+  few-rows = omega (arith, l .rows-are)
 
-  one-row : m ≤ length keys₀
-  one-row = let e : 1 * m ≤ rows * m = mul-le-mul-right m (p .some-rows) in omega (arith, keys-room)
+  one-row : m ≤ length keys
+  one-row = let e : 1 * m ≤ rows * m = mul-le-mul-right m (l .some-rows) in omega (arith, keys-room)
+
+  -- what the letters' sums ask, what storing the start asks, and the table's room
+  pub asks-sums : Coefficients (q .n) m (q .coefficients)
+  asks-sums = rw atoms (coefficients-fit (l .limits))
+
+  pub asks-start : (m ≤ 8) × (m ≤ length (q .constants)) × (0 * m + m ≤ length keys)
+  asks-start = (few-cells, rw (l .limits .sized .constants) few-cells, rw (zero-mul, zero-add) one-row)
+
+  pub table-room : rows * (1 + letters) ≤ length table
+  table-room = rows-fit rows (1 + letters) (length table) (rw (l .letters-are, l .rows-are) (build-room-table q keys table))
 
   start-are : take m (q .constants) ≡ cellsOf (startOf (atomsOf q))
-  start-are = rw (p .tables .count) (start-cells (p .tables .limits))
-
-  few : m ≤ length (q .constants)
-  few = rw (p .tables .limits .sized .constants, p .tables .count) (few-atoms (p .tables .limits))
+  start-are = rw atoms (start-cells (l .limits))
 
   start-width : length (cellsOf (startOf (atomsOf q))) ≡ m
-  start-width = sym (ap length start-are) ∙ length-take-le m (q .constants) few
+  start-width = sym (ap length start-are) ∙ length-take-le m (q .constants) (asks-start .1)
 
-  keys-are : keys₁ ≡ atFront (cellsOf (startOf (atomsOf q))) keys₀
-  unfolding atFront
-  keys-are =
-      p .stored
-      ∙ rw zero-mul
-      (stored-at-front [] keys₀ (q .constants) m few (rw zero-add one-row) ∙ ap (λ (c : List ℤ). atFront c keys₀) start-are)
+  -- ---- the letters' sums, and the constants stored as row 0
 
-  start-taken : take m keys₁ ≡ cellsOf (startOf (atomsOf q))
-  start-taken = rw keys-are (atFront-cells (cellsOf (startOf (atomsOf q))) keys₀ m start-width)
+  pub tables-are : {sums : List ℤ} → Sums (q .n) m (q .coefficients) sums → Tables q kinds m sums
+  tables-are sums-are = record { limits = l .limits; kinds-are = l .kinds-are .0; count = atoms; sums-are = sums-are }
 
-  keys-long : length keys₁ ≡ length keys₀
-  keys-long = rw keys-are (atFront-length (cellsOf (startOf (atomsOf q))) keys₀ (rw start-width one-row))
+  module _ {sums : List ℤ} (tables : Tables q kinds m sums) {keys₁ : List ℤ} (stored : keys₁ ≡ paste keys (0 * m) (q .constants) m) where
+    keys-are : keys₁ ≡ atFront (cellsOf (startOf (atomsOf q))) keys
+    unfolding atFront
+    keys-are =
+        stored
+        ∙ rw zero-mul
+        (stored-at-front [] keys (q .constants) m (asks-start .1) (rw zero-add one-row) ∙ ap (λ (c : List ℤ). atFront c keys) start-are)
 
-  start-row : KeyRow q m keys₁ 0 (startOf (atomsOf q))
-  start-row = record { room = omega (arith, keys-long, one-row); inside = startOf-in (atomsOf q); cells = start-taken }
+    start-taken : take m keys₁ ≡ cellsOf (startOf (atomsOf q))
+    start-taken = rw keys-are (atFront-cells (cellsOf (startOf (atomsOf q))) keys m start-width)
 
-  pub prepared-task : Task (q .codes) m sums letters
-  prepared-task = rw (p .letters-are) (question-task (p .tables))
+    keys-long : length keys₁ ≡ length keys
+    keys-long = rw keys-are (atFront-length (cellsOf (startOf (atomsOf q))) keys (rw start-width one-row))
 
-  pub prepared-ready : Ready (machineIn (q .codes) kinds m sums letters keys₁) m rows false keys₁ []
-  prepared-ready = record {
-    some-rows = p .some-rows;
-    few-rows = few-rows;
-    keys-room = rw keys-long keys-room;
-    path-room = omega arith;
-    start-fits = start-fits (p .tables) start-row;
-    path-start = λ e. absurd (true≢false (sym e));
-    refused = λ e. absurd (true≢false (sym e));
-  }
+    start-row : KeyRow q m keys₁ 0 (startOf (atomsOf q))
+    start-row = record { room = omega (arith, keys-long, one-row); inside = startOf-in (atomsOf q); cells = start-taken }
 
-  pub prepared-table : rows * (1 + letters) ≤ length table
-  prepared-table = rows-fit rows (1 + letters) (length table) (rw (p .letters-are, p .rows-are) (build-room-table q keys₀ table))
+    pub asks-task : Task (q .codes) m sums letters
+    asks-task = rw (l .letters-are) (question-task tables)
 
-  pub prepared-built : {answer : BuildAnswer} {keys : List ℤ} {table₁ : List ℕ}
-      → Builds (filled (machineIn (q .codes) kinds m sums letters keys₁) rows keys₁ table) answer keys table₁ → Builds (builtQuestion q keys₀ table) answer keys table₁
-  unfolding builtQuestion
-  prepared-built b =
-      let e : filled (machineIn (q .codes) kinds m sums letters keys₁) rows keys₁ table ≡ builtOf q rows keys₀ table =
-      rw (start-taken, p .letters-are, keys-are)
-      (filled-question q (simulates (p .tables)) rows (p .some-rows) (cellsOf (startOf (atomsOf q))) (start-width ∙ p .tables .count) keys₀
-      (rw (← p .tables .count) one-row) table) in
-      rw (← p .rows-are) (rw e at b)
+    pub asks-ready : Ready (machineIn (q .codes) kinds m sums letters keys₁) m rows false keys₁ []
+    asks-ready = record {
+      some-rows = l .some-rows;
+      few-rows = few-rows;
+      keys-room = rw keys-long keys-room;
+      path-room = omega arith;
+      start-fits = start-fits tables start-row;
+      path-start = λ e. absurd (true≢false (sym e));
+      refused = λ e. absurd (true≢false (sym e));
+    }
+
+    pub question-built : {answer : BuildAnswer} {keys₂ : List ℤ} {table₂ : List ℕ}
+        → Builds (filled (machineIn (q .codes) kinds m sums letters keys₁) rows keys₁ table) answer keys₂ table₂ → Builds (builtQuestion q keys table) answer keys₂ table₂
+    unfolding builtQuestion
+    question-built b =
+        let e : filled (machineIn (q .codes) kinds m sums letters keys₁) rows keys₁ table ≡ builtOf q rows keys table =
+        rw (start-taken, l .letters-are, keys-are)
+        (filled-question q (simulates tables) rows (l .some-rows) (cellsOf (startOf (atomsOf q))) (start-width ∙ atoms) keys (rw (← atoms) one-row) table) in
+        rw (← l .rows-are) (rw e at b)
 
 -- where no row is lent, nothing changes
 pub nothing-built : (q : Question) (keys : List ℤ) (table : List ℕ) → 0 ≡ buildRoom q keys table

@@ -22,6 +22,11 @@ module _ {S : Type 0} (M : Machine S) (l : Rows S) where
   next-from s a zero = let e : a + 0 ≡ a = omega arith in rw e
   next-from s a (suc n) = let e : a + suc n ≡ suc a + n = omega arith in rw e (ap (λ (k : List ℕ). numberOf M l (M .step s a) ∷ k) (next-from s (suc a) n))
 
+  next-length : (s : S) (a n : ℕ) → length (nextStates M l s a n) ≡ n
+  unfolding nextStates
+  next-length s a zero = refl
+  next-length s a (suc n) = ap suc (next-length s (suc a) n)
+
   -- the mark and the next states of the first a letters
   abbrev pub marked : S → ℕ → List ℕ
   marked s a = cond (M .accepts s) 1 0 ∷ nextStates M l s 0 a
@@ -51,14 +56,9 @@ front-part cells part buffer n k e f =
 -- ---- the first rows of the table
 
 module _ {S : Type 0} (M : Machine S) (l : Rows S) where
-  next-length : (s : S) (a n : ℕ) → length (nextStates M l s a n) ≡ n
-  unfolding nextStates
-  next-length s a zero = refl
-  next-length s a (suc n) = ap suc (next-length s (suc a) n)
-
   pub row-length : (r : Row S) → length (tableRow M l r) ≡ 1 + M .letters
   unfolding tableRow
-  row-length r = omega (arith, next-length (r .state) 0 (M .letters))
+  row-length r = omega (arith, next-length M l (r .state) 0 (M .letters))
 
   abbrev pub firstRows : ℕ → List ℕ
   firstRows s = joined (map (tableRow M l) (take s l))

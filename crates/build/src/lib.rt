@@ -30,6 +30,7 @@ ghost use Rattle.build.specs.Tabling.{machineIn, Tabling};
 ghost use Rattle.build.specs.Row.{rowOf};
 ghost use Rattle.build.specs.Table.{tableAfter};
 ghost use Rattle.build.specs.Builds.{Builds, filled};
+ghost use Rattle.build.specs.Asked.{Lends};
 
 // The rows for which the small index has room, and its buckets.
 const FEW: usize = 256;
@@ -291,26 +292,43 @@ fn room(keys: usize, m: usize, table: usize, width: usize) -> usize
     least(least(keys / m, table / width), Question::STATES)
 }
 
-// Builds the table of a question that was accepted.
-fn build_question(question: Question, keys: &mut [i32], table: &mut [u16]) -> BuildAnswer
-    requires { ⌜ WithinLimits question ⌝ }
+// Builds the table of a question in so many rows, and its start is row 0.
+fn build_rows(
+    question: Question,
+    kinds: &[u8; 8],
+    m: usize,
+    letters: usize,
+    rows: usize,
+    keys: &mut [i32],
+    table: &mut [u16],
+) -> BuildAnswer
+    requires { ⌜ Lends question (now kinds) m letters rows (now keys) (now table) ⌝ }
     ensures { λ r. ⌜ Builds (builtQuestion question (now (keys .entry)) (now (table .entry))) r (now (keys .exit)) (now (table .exit)) ⌝ }
 {
     let n = question.n as usize;
     let codes = question.codes;
     let coefficients = question.coefficients;
     let constants = question.constants;
+    let sums = letter_sums(n, m, &coefficients);
+    store_row(keys, m, 0, &constants);
+    fill(&codes, kinds, m, &sums, letters, keys, table, rows)
+}
+
+// Builds the table of a question that was accepted.
+fn build_question(question: Question, keys: &mut [i32], table: &mut [u16]) -> BuildAnswer
+    requires { ⌜ WithinLimits question ⌝ }
+    ensures { λ r. ⌜ Builds (builtQuestion question (now (keys .entry)) (now (table .entry))) r (now (keys .exit)) (now (table .exit)) ⌝ }
+{
+    let codes = question.codes;
     let atoms = kinds_of(&codes);
     let kinds = atoms.kinds;
     let m = atoms.m;
-    let count = letters(n);
+    let count = letters(question.n as usize);
     let rows = room(keys.len(), m, table.len(), 1 + count);
     if rows == 0 {
         return BuildAnswer::NoRoom { states: 0 };
     }
-    let sums = letter_sums(n, m, &coefficients);
-    store_row(keys, m, 0, &constants);
-    fill(&codes, &kinds, m, &sums, count, keys, table, rows)
+    build_rows(question, &kinds, m, count, rows, keys, table)
 }
 
 // Builds the table of the question that the bytes say.

@@ -41,17 +41,6 @@ returns-3 c = absurd (building-finds-none (rw (c .before .explored3 .given .1) a
 pub fill-spec : {M : Type 1} → statement M
 fill-spec =
     tie.close
-    (tie.spec
-    (λ c. search needs)
-    number-rows-requires
-    (λ c. search needs)
-    write-table-requires
-    (λ c. search needs)
-    (λ c. search needs)
-    (λ c. search needs)
-    (λ c. search needs)
-    returns
-    (λ c. search needs)
-    returns-2
-    (λ c. search needs)
+    (tie.spec (λ c. search needs) number-rows-requires (λ c. search needs) write-table-requires (λ c. search needs) (λ
+    c. search needs) (λ c. search needs) (λ c. search needs) returns (λ c. search needs) returns-2 (λ c. search needs)
     returns-3)

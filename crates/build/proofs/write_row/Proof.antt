@@ -23,9 +23,6 @@ accepts-requires c κs =
     let start = c .before .before .before in
     (start .pre .0 .task .codes-whole, start .pre .0 .task .atoms, row-room (start .pre .0) (start .args .row) (start .pre .1 .1 .0))
 
-mark-requires : tie.Need-mark-requires Inv-loop μ-loop
-mark-requires c κs = search needs
-
 slice-write-part : tie.Need-slice-write-part Inv-loop μ-loop
 slice-write-part c = omega arith
 
@@ -49,12 +46,6 @@ mul-part c = omega arith
 slice-write-part-2 : tie.Need-slice-write-part-2 Inv-loop μ-loop
 slice-write-part-2 c = omega arith
 
-add-letter : tie.Need-add-letter Inv-loop μ-loop
-add-letter c = search needs
-
-loop-less : tie.Need-loop-less Inv-loop μ-loop
-loop-less c = search needs
-
 loop-again : tie.Need-loop-again Inv-loop μ-loop
 loop-again c =
     let start = c .before .before .before .before .before .before .before .before in
@@ -72,20 +63,6 @@ returns c =
 pub write-row-spec : {M : Type 1} → statement M
 write-row-spec =
     tie.close
-    (tie.spec
-    Inv-loop
-    μ-loop
-    mul-accepts
-    accepts-requires
-    mark-requires
-    slice-write-part
-    loop-holds
-    next-state-requires
-    add-part
-    mul-part
-    slice-write-part-2
-    add-letter
-    loop-less
-    loop-again
-    same-length
-    returns)
+    (tie.spec Inv-loop μ-loop mul-accepts accepts-requires (λ c κs. search needs) slice-write-part loop-holds
+    next-state-requires add-part mul-part slice-write-part-2 (λ c. search needs) (λ c. search needs) loop-again
+    same-length returns)

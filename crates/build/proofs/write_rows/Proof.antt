@@ -25,9 +25,6 @@ within c =
     let start = c .before .before .before .before .before in
     omega (arith, row-end (c .before .loop .row) (start .args .count) (1 + start .args .letters) (c .loop-test .taken), start .pre .1 .1, c .before .loop .inv .size)
 
-add-width : tie.Need-add-width Inv-loop μ-loop
-add-width c = search needs
-
 loop-holds : tie.Need-loop-holds Inv-loop μ-loop
 loop-holds c = no-row-written (c .before .before .before .pre .0) (c .before .before .before .args .table .now)
 
@@ -55,9 +52,6 @@ write-row-requires c κs =
     let w = within (c .before) in
     (start .pre .0, (start .pre .1 .0, (c .before .loop-test .taken, simp (length-take, length-drop) (omega (arith, w)))))
 
-add-row : tie.Need-add-row Inv-loop μ-loop
-add-row c = search needs
-
 loop-less : tie.Need-loop-less Inv-loop μ-loop
 loop-less c = omega arith
 
@@ -83,20 +77,6 @@ returns c =
 pub write-rows-spec : {M : Type 1} → statement M
 write-rows-spec =
     tie.close
-    (tie.spec
-    Inv-loop
-    μ-loop
-    add-width
-    loop-holds
-    mul-at
-    add-end
-    mul-write-row
-    sub-write-row
-    part-write-row-start
-    part-write-row-end
-    write-row-requires
-    add-row
-    loop-less
-    loop-again
-    same-length
+    (tie.spec Inv-loop μ-loop (λ c. search needs) loop-holds mul-at add-end mul-write-row sub-write-row
+    part-write-row-start part-write-row-end write-row-requires (λ c. search needs) loop-less loop-again same-length
     returns)
