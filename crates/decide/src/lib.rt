@@ -4,6 +4,7 @@ use explore::accepts;
 use explore::number_rows;
 use index::store_row;
 use scope::DecideAnswer;
+use scope::Question;
 use scope::ReadAnswer;
 use step::kinds_of;
 use step::letter_sums;
@@ -32,7 +33,7 @@ fn room(keys: usize, path: usize, m: usize) -> usize
     requires { ⌜ 0 < m ⌝ }
     ensures { λ r. ⌜ r ≡ min (min (keys / m) (path / 2)) mostStates ⌝ }
 {
-    least(least(keys / m, path / 2), 65_535)
+    least(least(keys / m, path / 2), Question::STATES)
 }
 
 // The start as row 0.
