@@ -1,27 +1,36 @@
--- Theorems on the definitions of `scope`, before there is any code: integers, the meaning of a step, numbering by first word, the
--- range of an entry and the bound, deciding and building, and the wire. docs/PROMISES.md says which theorem meets which demand.
+-- Theorems on the definitions of `scope`, before there is any code. docs/PROMISES.md says which theorem meets which demand.
+
+-- whole numbers: a bridge to linear arithmetic, laws, halving, sizes, letter sums
 pub mod Bridge
 pub mod Integers
 pub mod Half
 pub mod Magnitude
 pub mod Sums
+pub mod Pigeonhole
+
+-- words and what they spell, and that a step keeps the meaning
+pub mod Order
 pub mod Spelling
 pub mod Meaning
-pub mod Order
+
+-- the numbering of any machine, by first words, and its verdicts
 pub mod Lawful
 pub mod Prefix
 pub mod Table
 pub mod Firsts
 pub mod Numbers
 pub mod Verdicts
-pub mod Exploring
-pub mod Simulation
-pub mod Pigeonhole
 pub mod Reachable
 pub mod FirstWords
+pub mod Exploring
+pub mod Simulation
+
+-- the range of an entry, the bound, key cells
 pub mod Range
 pub mod Bounded
 pub mod Cells
+
+-- the wire: checks, bytes, records; one step of reading and of writing; both ways round; where each is refused
 pub mod Checks
 pub mod Lockstep
 pub mod Octets
@@ -43,6 +52,8 @@ pub mod WritingStopped
 pub mod Answers
 pub mod Buffers
 pub mod Variables
+
+-- what each answer of deciding, building, running and judging says, and what each lent buffer holds after
 pub mod Joined
 pub mod Deciding
 pub mod Decided
