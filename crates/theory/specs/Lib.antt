@@ -7,12 +7,10 @@ pub mod Half
 pub mod Magnitude
 pub mod Sums
 pub mod Pigeonhole
-
 -- words and what they spell, and that a step keeps the meaning
 pub mod Order
 pub mod Spelling
 pub mod Meaning
-
 -- the numbering of any machine, by first words, and its verdicts
 pub mod Lawful
 pub mod Prefix
@@ -24,12 +22,10 @@ pub mod Reachable
 pub mod FirstWords
 pub mod Exploring
 pub mod Simulation
-
 -- the range of an entry, the bound, key cells
 pub mod Range
 pub mod Bounded
 pub mod Cells
-
 -- the wire: checks, bytes, records; one step of reading and of writing; both ways round; where each is refused
 pub mod Checks
 pub mod Lockstep
@@ -52,7 +48,6 @@ pub mod WritingStopped
 pub mod Answers
 pub mod Buffers
 pub mod Variables
-
 -- what each answer of deciding, building, running and judging says, and what each lent buffer holds after
 pub mod Joined
 pub mod Deciding
