@@ -1,6 +1,6 @@
 //! The outside vectors in `data/`, taken apart: lists are joined by commas, bytes are hex, `-` is an empty list or no bytes.
 
-pub const BASE: &str = include_str!("../data/base.txt");
+pub const BASE: &str = include_str!("../../crates/vectors/data/base.txt");
 pub const BLOCKS: &[u8] = include_bytes!("../data/blocks.bin");
 pub const BLOCK_LINES: &str = include_str!("../data/blocks.txt");
 pub const COCONUTS: &[u8] = include_bytes!("../data/coconuts.bin");
