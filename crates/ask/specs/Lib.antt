@@ -1,2 +1,3 @@
 -- What the asking program answers, by the definitions.
 pub mod Asked
+pub mod Room

@@ -1,9 +1,10 @@
 // The asking program: reads a question from standard input, decides it and prints the answer. What is printed is told of the first 1,024 bytes.
 use libc::STDIN_FILENO;
 use libc::STDOUT_FILENO;
-ghost use mathlib.Core.Path.{_≡_};
-ghost use Rattle.told.specs.Text.{telling, told};
-ghost use Rattle.ask.specs.Asked.{variables, decidedFor};
+ghost use Prim.Native.Nat.{_≤_};
+ghost use lib.ListN.{length};
+ghost use Rattle.told.specs.Text.{longest};
+ghost use Rattle.ask.specs.Asked.{Asked};
 
 // The bytes that decide.
 const QUESTION: usize = 1_024;
@@ -18,9 +19,10 @@ const WORD: usize = 1_024;
 // Room for every text.
 const TEXT: usize = 4_352;
 
-// Puts the text of the answer to a question at the front of out, and answers its length; 0, and out as it was, where out is too short.
+// Puts the text of the answer to a question at the front of out, which has room for every text, and answers its length.
 fn answer_to(question: &[u8], out: &mut [u8]) -> usize
-    ensures { λ r. ⌜ telling r (now (out .exit)) ≡ told (variables (now (question .entry))) (decidedFor (now (question .entry)) .answer) (decidedFor (now (question .entry)) .word) (now (out .entry)) ⌝ }
+    requires { ⌜ longest ≤ length (now out) ⌝ }
+    ensures { λ r. ⌜ Asked (now (question .entry)) r (now (out .exit)) ⌝ }
 {
     let mut keys = [0i32; KEYS];
     let mut path = [0u16; PATH];

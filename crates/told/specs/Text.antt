@@ -1,7 +1,8 @@
 -- Document 01, the end of "Checked by hand": what the asking program prints of an answer, byte by byte.
-use Prim.Native.Nat.{ℕ}
+use Prim.Native.Nat.{ℕ, _≤_}
 use Prim.Native.Char.{code}
 use Prim.Native.String.{String}
+use mathlib.Core.Path.{_≡_}
 use mathlib.Core.Bool.{Bool, true, false, cond}
 use mathlib.Core.List.{List, [], _∷_, _++_}
 use lib.ListN.{length, take}
@@ -102,3 +103,12 @@ toldIf false text out = telling 0 out
 
 unfoldable pub told : ℕ → DecideAnswer → List ℕ → List ℕ → Telling
 told n answer word out = let text = textOf n answer word in toldIf (leb (length text) (length out)) text out
+
+-- the bytes that have room for every text
+abbrev pub longest : ℕ
+longest = 4352
+
+-- what telling leaves
+pub record Tells (n : ℕ) (answer : DecideAnswer) (word out : List ℕ) (r : ℕ) (after : List ℕ) : Type 0 where
+  pub is : telling r after ≡ told n answer word out
+  pub room : longest ≤ length out → length (textOf n answer word) ≤ length out

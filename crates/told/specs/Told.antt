@@ -1,11 +1,11 @@
--- What a caller of `tell` learns: the length that it answers is within the buffer; and of a found word, document 01's test for its values.
+-- What a caller of `tell` learns: where the buffer has room for every text, its front is the text; and of a found word, document 01's test for its values.
 use Prim.Native.Nat.{ℕ, _+_, _≤_, _<_}
 use native.Mathlib.Omega.{arith}
 use mathlib.Core.Path.{_≡_, ap}
-use mathlib.Core.Bool.{Bool, true, false}
-use mathlib.Core.List.{List}
-use lib.ListN.{length, drop, length-append}
-use lib.Dec.{leb}
+use mathlib.Core.Bool.{true}
+use mathlib.Core.List.{List, _++_}
+use lib.ListN.{length, take, drop, length-append}
+use lib.Seq.{take-append-seam}
 use borrow.Author.Tests.{le-leb, lt-leb}
 use Rattle.scope.specs.declared.DecideAnswer.{DecideAnswer}
 use Rattle.scope.specs.Whole.{atFront}
@@ -14,21 +14,18 @@ use Rattle.scope.specs.Refusals.{firstRefusal}
 use Rattle.scope.specs.Words.{Word, lettersFit, spelled, spelt}
 use Rattle.words.specs.Tests.{from-one}
 use Rattle.told.specs.Values.{Spellable, spelt-value}
-use Rattle.told.specs.Text.{ascii, numbers, valuesSaid, textOf, Telling, telling, told, toldIf}
+use Rattle.told.specs.Text.{ascii, numbers, valuesSaid, longest, textOf, Telling, telling, told, Tells}
 
-front-within : (b : Bool) (text out : List ℕ) (r : ℕ) (l : List ℕ) → telling r l ≡ toldIf b text out → r ≤ length l
-unfolding atFront
-front-within true text out r l e =
-    let n : r ≡ length text = ap (λ (t : Telling). t .answer) e in
-    let m : length l ≡ length (atFront text out) = ap (λ (t : Telling). length (t .out)) e in
-    omega (arith, length-append text (drop (length text) out))
-front-within false text out r l e =
-    let n : r ≡ 0 = ap (λ (t : Telling). t .answer) e in
-    omega arith
-
-pub told-within : (n : ℕ) (answer : DecideAnswer) (word out : List ℕ) (r : ℕ) (l : List ℕ) → telling r l ≡ told n answer word out → r ≤ length l
-unfolding told
-told-within n answer word out r l e = front-within (leb (length (textOf n answer word)) (length out)) (textOf n answer word) out r l e
+-- a text that has room stands at the front
+pub told-whole : (n : ℕ) (answer : DecideAnswer) (word out : List ℕ) (r : ℕ) (l : List ℕ) → Tells n answer word out r l → longest ≤ length out
+    → (r ≡ length (textOf n answer word)) × (take r l ≡ textOf n answer word) × (r ≤ length l)
+unfolding told atFront
+told-whole n answer word out r l t h =
+    let text = textOf n answer word in
+    let e : telling r l ≡ telling (length text) (text ++ drop (length text) out) = rw (le-leb (length text) (length out) (t .room h)) at (t .is) in
+    let a : r ≡ length text = ap (λ (k : Telling). k .answer) e in
+    let b : l ≡ text ++ drop (length text) out = ap (λ (k : Telling). k .out) e in
+    (a, rw (a, b) (take-append-seam text (drop (length text) out)), omega (arith, ap length b, length-append text (drop (length text) out)))
 
 -- ---- a word that n and its letters fit, as those of a found word do
 

@@ -9,7 +9,7 @@ ghost use Prim.Native.Nat.{_+_, _-_, _*_, _≤_, _<_};
 ghost use lib.ListN.{length, take};
 ghost use Rattle.scope.specs.Words.{value, spelled};
 ghost use Rattle.told.specs.Decimal.{digitByte, decimal};
-ghost use Rattle.told.specs.Text.{spaced, numbers, valuesSaid, valuesLine, lettersSaid, lettersLine, statesLine, foundText, shortText, neverText, noRoomText, refusedText, textOf, telling, told};
+ghost use Rattle.told.specs.Text.{spaced, numbers, valuesSaid, valuesLine, lettersSaid, lettersLine, statesLine, foundText, shortText, neverText, noRoomText, refusedText, longest, textOf, Tells};
 ghost use Rattle.told.specs.Writers.{Put};
 ghost use Rattle.told.specs.Values.{Spellable};
 
@@ -164,8 +164,8 @@ fn states_line(states: usize, out: &mut [u8], at: usize) -> usize
 }
 
 fn found_text(n: usize, states: usize, word: &[u8], out: &mut [u8]) -> usize
-    requires { ⌜ 4352 ≤ length (now out) ⌝ }
-    ensures { λ r. ⌜ Put (foundText n states (now (word .entry))) 0 (now (out .entry)) r (now (out .exit)) × (r ≤ 4352) ⌝ }
+    requires { ⌜ longest ≤ length (now out) ⌝ }
+    ensures { λ r. ⌜ Put (foundText n states (now (word .entry))) 0 (now (out .entry)) r (now (out .exit)) × (r ≤ longest) ⌝ }
 {
     let values = put_bytes(b"verdict found\n", out, 0);
     let letters = values_line(n, word, out, values);
@@ -174,32 +174,32 @@ fn found_text(n: usize, states: usize, word: &[u8], out: &mut [u8]) -> usize
 }
 
 fn short_text(states: usize, out: &mut [u8]) -> usize
-    requires { ⌜ 4352 ≤ length (now out) ⌝ }
-    ensures { λ r. ⌜ Put (shortText states) 0 (now (out .entry)) r (now (out .exit)) × (r ≤ 4352) ⌝ }
+    requires { ⌜ longest ≤ length (now out) ⌝ }
+    ensures { λ r. ⌜ Put (shortText states) 0 (now (out .entry)) r (now (out .exit)) × (r ≤ longest) ⌝ }
 {
     let end = put_bytes(b"verdict found\nvalues long\nletters long\n", out, 0);
     states_line(states, out, end)
 }
 
 fn never_text(states: usize, out: &mut [u8]) -> usize
-    requires { ⌜ 4352 ≤ length (now out) ⌝ }
-    ensures { λ r. ⌜ Put (neverText states) 0 (now (out .entry)) r (now (out .exit)) × (r ≤ 4352) ⌝ }
+    requires { ⌜ longest ≤ length (now out) ⌝ }
+    ensures { λ r. ⌜ Put (neverText states) 0 (now (out .entry)) r (now (out .exit)) × (r ≤ longest) ⌝ }
 {
     let end = put_bytes(b"verdict never\n", out, 0);
     states_line(states, out, end)
 }
 
 fn no_room_text(states: usize, out: &mut [u8]) -> usize
-    requires { ⌜ 4352 ≤ length (now out) ⌝ }
-    ensures { λ r. ⌜ Put (noRoomText states) 0 (now (out .entry)) r (now (out .exit)) × (r ≤ 4352) ⌝ }
+    requires { ⌜ longest ≤ length (now out) ⌝ }
+    ensures { λ r. ⌜ Put (noRoomText states) 0 (now (out .entry)) r (now (out .exit)) × (r ≤ longest) ⌝ }
 {
     let end = put_bytes(b"verdict no-room\n", out, 0);
     states_line(states, out, end)
 }
 
 fn refused_text(refusal: Refusal, out: &mut [u8]) -> usize
-    requires { ⌜ 4352 ≤ length (now out) ⌝ }
-    ensures { λ r. ⌜ Put (refusedText refusal) 0 (now (out .entry)) r (now (out .exit)) × (r ≤ 4352) ⌝ }
+    requires { ⌜ longest ≤ length (now out) ⌝ }
+    ensures { λ r. ⌜ Put (refusedText refusal) 0 (now (out .entry)) r (now (out .exit)) × (r ≤ longest) ⌝ }
 {
     let number = refusal.number;
     let place = refusal.place;
@@ -222,8 +222,8 @@ fn word_of<'a>(word: &'a [u8], letters: usize) -> &'a [u8]
 }
 
 fn put_text(n: usize, answer: DecideAnswer, word: &[u8], out: &mut [u8]) -> usize
-    requires { ⌜ 4352 ≤ length (now out) ⌝ }
-    ensures { λ r. ⌜ Put (textOf n answer (now (word .entry))) 0 (now (out .entry)) r (now (out .exit)) × (r ≤ 4352) ⌝ }
+    requires { ⌜ longest ≤ length (now out) ⌝ }
+    ensures { λ r. ⌜ Put (textOf n answer (now (word .entry))) 0 (now (out .entry)) r (now (out .exit)) × (r ≤ longest) ⌝ }
 {
     match answer {
         DecideAnswer::Found { states, letters } => found_text(
@@ -242,7 +242,7 @@ fn put_text(n: usize, answer: DecideAnswer, word: &[u8], out: &mut [u8]) -> usiz
 // Puts the text of an answer at the front of out and answers its length; 0, and out as it was, where out is too short. The word is at the
 // front of its buffer.
 pub fn tell(n: usize, answer: DecideAnswer, word: &[u8], out: &mut [u8]) -> usize
-    ensures { λ r. ⌜ telling r (now (out .exit)) ≡ told n answer (now (word .entry)) (now (out .entry)) ⌝ }
+    ensures { λ r. ⌜ Tells n answer (now (word .entry)) (now (out .entry)) r (now (out .exit)) ⌝ }
 {
     let mut text = [0u8; LONGEST];
     let length = put_text(n, answer, word, &mut text);

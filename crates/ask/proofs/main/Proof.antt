@@ -4,12 +4,11 @@ use mathlib.Core.Path.{_≡_, sym}
 use lib.ListN.{length}
 use lib.Seq.{length-take-le}
 use borrow.Author.Needs.{needs}
-use Rattle.told.specs.Told.{told-within}
 use Rattle.ask.proofs.main.Statement.{statement}
 use Rattle.ask.proofs.main.Tie as tie
 
 within : (c : tie.After-answer-to) → c .answer-to .result ≤ length (c .answer-to .last .1 .0)
-within c = told-within _ _ _ _ _ _ (c .answer-to .ensures)
+within c = c .answer-to .ensures .within
 
 array-share-prefix-text : tie.Need-array-share-prefix-text
 array-share-prefix-text c = within (c .before)

@@ -10,7 +10,7 @@ use borrow.Author.Needs.{needs}
 use borrow.Author.Tests.{le-leb, lt-leb}
 use Rattle.scope.specs.declared.DecideAnswer.{DecideAnswer}
 use Rattle.scope.specs.Whole.{atFront}
-use Rattle.told.specs.Text.{textOf, Telling, telling, told}
+use Rattle.told.specs.Text.{textOf, Tells, telling, told, longest}
 use Rattle.told.specs.Writers.{Put}
 use Rattle.told.proofs.tell.Statement.{statement}
 use Rattle.told.proofs.tell.Tie as tie
@@ -31,11 +31,14 @@ module _ (n : ℕ) (answer : DecideAnswer) (word out before after : List ℕ) (r
       let d : k ≡ length (textOf n answer word) = rw (p .front) at e in
       rw (le-leb (length (textOf n answer word)) (length out) (omega (arith, text-length)), d, g)
 
+  tells : r ≤ longest → {k : ℕ} {l : List ℕ} → telling k l ≡ told n answer word out → Tells n answer word out k l
+  tells h e = record { is = e; room = λ g. omega (arith, text-length) }
+
 returns : tie.Need-returns
 returns c =
     let s = c .before .before .before .before .before .before in
     let p = c .before .before .put-text in
-    too-short (s .args .n) (s .args .answer) (now (s .args .word)) (now (s .args .out)) _ _ (p .result) (p .ensures .0) (omega arith)
+    tells (s .args .n) (s .args .answer) (now (s .args .word)) (now (s .args .out)) _ _ (p .result) (p .ensures .0) (p .ensures .1) (too-short (s .args .n) (s .args .answer) (now (s .args .word)) (now (s .args .out)) _ _ (p .result) (p .ensures .0) (omega arith))
 
 slice-aggregate-copy : tie.Need-slice-aggregate-copy
 slice-aggregate-copy c =
@@ -52,7 +55,7 @@ returns-2 c =
     let s = c .before .before .before .before .before .before .before .before .before .before .before in
     let p = c .before .before .before .before .before .before .before .put-text in
     let q = c .before .before .copy in
-    has-room (s .args .n) (s .args .answer) (now (s .args .word)) (now (s .args .out)) _ _ (p .result) (p .ensures .0) (omega arith) (q .result) (q .last .1 .0) (q .ensures .0) (q .ensures .1)
+    tells (s .args .n) (s .args .answer) (now (s .args .word)) (now (s .args .out)) _ _ (p .result) (p .ensures .0) (p .ensures .1) (has-room (s .args .n) (s .args .answer) (now (s .args .word)) (now (s .args .out)) _ _ (p .result) (p .ensures .0) (omega arith) (q .result) (q .last .1 .0) (q .ensures .0) (q .ensures .1))
 
 pub tell-spec : {M : Type 1} → statement M
 tell-spec = tie.close (tie.spec (λ c. search needs) (λ c κs. search needs) returns (λ c. search needs) slice-aggregate-copy copy-requires (λ c. search needs) returns-2)
