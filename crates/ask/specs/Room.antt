@@ -1,30 +1,29 @@
 -- What the room of the asking program means: R is 1,024 for any m, a found word has room, and its values are told by document 01's test.
-use Prim.Native.Nat.{ℕ, _*_, _/_, _≤_, _<_, min}
+use Prim.Native.Nat.{ℕ, _*_, _/_, _≤_, _<_}
 use native.Mathlib.Nat.{le-div-iff-mul-le}
 use native.Mathlib.Omega.{arith}
 use mathlib.Core.Path.{_≡_, refl, sym, ap, _∙_}
-use mathlib.Core.Logic.{_↔_, _≢_}
-use mathlib.Core.Bool.{true, _&&_}
-use mathlib.Core.List.{List, [], _∷_}
+use mathlib.Core.Logic.{_≢_}
+use mathlib.Core.Bool.{true}
+use mathlib.Core.List.{List}
 use lib.ListN.{length, take, length-replicate}
 use lib.Seq.{length-take-le}
-use lib.Dec.{leb, ltb}
+use lib.Dec.{ltb}
 use lib.IntN.{ℤ, pos}
 use borrow.Author.Tests.{le-leb, lt-ltb}
 use Rattle.scope.specs.declared.Question.{Question}
 use Rattle.scope.specs.declared.Refusal.{Refusal}
 use Rattle.scope.specs.declared.ReadAnswer.{ReadAnswer}
-use Rattle.scope.specs.declared.Held.{Held}
 use Rattle.scope.specs.declared.DecideAnswer.{DecideAnswer}
 use Rattle.scope.specs.Whole.{all}
 use Rattle.scope.specs.Sizes.{variablesFit}
 use Rattle.scope.specs.Question.{atomCount}
 use Rattle.scope.specs.Wire.{readHeld}
-use Rattle.scope.specs.Words.{Word, Over, over-[], over-∷, lettersFit, letters, spelled}
+use Rattle.scope.specs.Words.{Word, Over, over-[], over-∷, lettersFit, spelled}
 use Rattle.scope.specs.Deciding.{Decided, decideRoom, decided}
 use Rattle.theory.specs.Accepted.{WithinLimits, accepted-within}
 use Rattle.theory.specs.Answers.{atom-count}
-use Rattle.theory.specs.Decided.{RowFound, letters-fewer, refused-unchanged, says-found, says-short, found-hands-over}
+use Rattle.theory.specs.Decided.{letters-fewer, refused-unchanged, says-found, says-short, found-hands-over}
 use Rattle.theory.specs.Lengths.{decided-word-length}
 use Rattle.told.specs.Text.{ascii, numbers, valuesSaid}
 use Rattle.told.specs.Told.{values-spelled, values-long}

@@ -1,7 +1,6 @@
 -- What document 01 prints, and one text of each other kind.
 use mathlib.Core.Path.{_≡_, refl}
 use mathlib.Core.List.{[], _∷_}
-use lib.ListN.{replicate}
 use Rattle.scope.specs.declared.DecideAnswer.{DecideAnswer}
 use Rattle.scope.specs.Refusals.{refusal}
 use Rattle.scope.specs.Outcomes.{running}

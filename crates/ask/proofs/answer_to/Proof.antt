@@ -2,13 +2,12 @@
 use Prim.Native.Nat.{ℕ, _≤_}
 use mathlib.Core.Path.{_≡_, ap, _∙_}
 use mathlib.Core.List.{List}
-use lib.ListN.{length, take}
+use lib.ListN.{length}
 use denote.Ref.{now}
 use borrow.Author.Needs.{needs}
 use Rattle.scope.specs.declared.Held.{Held}
 use Rattle.scope.specs.declared.DecideAnswer.{DecideAnswer}
 use Rattle.scope.specs.Wire.{readHeld}
-use Rattle.scope.specs.Deciding.{Decided, decided}
 use Rattle.told.specs.Text.{longest, textOf, Tells}
 use Rattle.told.specs.Told.{told-whole}
 use Rattle.ask.specs.Asked.{variables, decidedFor, asked, Asked}

@@ -1,9 +1,8 @@
 -- `told::put_decimal` meets its contract. The measure is the number. Assumes nothing.
-use Prim.Native.Nat.{ℕ, _+_, _<_, _/_, _%_}
+use Prim.Native.Nat.{ℕ, _+_, _<_, _/_}
 use native.Mathlib.Omega.{arith}
-use mathlib.Core.Path.{_≡_, sym, ap, _∙_}
+use mathlib.Core.Path.{_≡_, sym, _∙_}
 use mathlib.Core.List.{List, [], _∷_, _++_}
-use denote.Ref.{now}
 use borrow.Author.Needs.{needs}
 use borrow.Fn.Kinds.{In}
 use borrow.Fn.PlainCycle.{Measures, is, falls, and}
