@@ -1,3 +1,4 @@
 -- What the asking program answers, by the definitions.
 pub mod Asked
 pub mod Room
+pub mod Examples
