@@ -1,8 +1,11 @@
 //! Measures the solvers side by side in one run: the 300 list-block questions decided with 65,535 rows lent, and the coconut equations
-//! built whole (25,090 states, 64 letters). The solvers take turns in each of several rounds. Each has its median and its least time, which a
-//! busy machine moves less, and both as ratios to the plain one's. `bench [ROUNDS]`, 15 rounds unless said.
+//! built whole (25,090 states, 64 letters); then one family of questions at 1,000, 10,000 and 60,000 states, decided and built, to see
+//! whether a transition costs more where there are more states. The solvers take turns in each of several rounds. Each has its median and its
+//! least time, which a busy machine moves less, and both as ratios to the plain one's. `bench [ROUNDS]`, 15 rounds unless said.
 
-use pelohuaki_bench::reading::{Building, Decision, Question};
+#[cfg(feature = "proved")]
+use pelohuaki_bench::proved;
+use pelohuaki_bench::reading::{Building, Decision, Question, AND, AT_MOST};
 use pelohuaki_bench::{plain, reading, vectors};
 use std::hint::black_box;
 use std::time::Instant;
@@ -19,7 +22,8 @@ struct Solver {
 fn solvers() -> Vec<Solver> {
     vec![
         Solver { name: "plain", decide: plain::decide, build: plain::build, most_rounds: usize::MAX },
-        // The proved calls come here, from `proved`, under `#[cfg(feature = "proved")]`.
+        #[cfg(feature = "proved")]
+        Solver { name: "proved", decide: proved::decide, build: proved::build, most_rounds: usize::MAX },
         Solver { name: "reading", decide: reading_decide, build: reading_build, most_rounds: 3 },
     ]
 }
@@ -83,9 +87,46 @@ fn report(title: &str, solvers: &[Solver], times: &[Time], transitions: usize, c
     }
 }
 
+/// a x <= 0 and b y <= 0 and 0x <= -1: (a + 1)(b + 1) states, none of which accepts.
+fn never(a: i32, b: i32) -> Vec<u8> {
+    let mut question = Question::empty();
+    question.n = 2;
+    question.codes[..5].copy_from_slice(&[AND, AND, AT_MOST, AT_MOST, AT_MOST]);
+    question.coefficients[0] = a;
+    question.coefficients[7] = b;
+    question.constants[2] = -1;
+    reading::bytes_of(&question).expect("within the limits")
+}
+
+/// One family of questions at several sizes, by the fast solvers.
+fn growing(rounds: usize, solvers: &[Solver]) {
+    for (a, b) in [(24, 39), (99, 99), (239, 249)] {
+        let states = (a as usize + 1) * (b as usize + 1);
+        let calls = 60_000 / states;
+        let question = never(a, b);
+        let mut keys = vec![0; states * 3];
+        let mut path = vec![0; states * 2];
+        let mut table = vec![0; states * 5];
+        let decided = times(rounds, solvers, |solver| {
+            for _ in 0..calls {
+                let answer = (solver.decide)(black_box(&question), &mut keys, &mut path, &mut []);
+                assert_eq!(answer, Decision::Never { states }, "{}", solver.name);
+            }
+        });
+        report(&format!("{states} states, decided"), solvers, &decided, states * 4 * calls, calls);
+        let built = times(rounds, solvers, |solver| {
+            for _ in 0..calls {
+                let answer = (solver.build)(black_box(&question), &mut keys, &mut table);
+                assert_eq!(answer, Building::Built { states }, "{}", solver.name);
+            }
+        });
+        report(&format!("{states} states, built"), solvers, &built, states * 4 * calls, calls);
+    }
+}
+
 fn main() {
     let rounds = std::env::args().nth(1).map_or(15, |rounds| rounds.parse().expect("a number of rounds")).max(1);
-    let solvers = solvers();
+    let mut solvers = solvers();
 
     let questions = vectors::blocks();
     let rows = Question::STATES;
@@ -115,4 +156,7 @@ fn main() {
         assert_eq!(answer, Building::Built { states }, "{}", solver.name);
     });
     report("coconuts, built whole", &solvers, &coconuts, states * 64, 1);
+
+    solvers.retain(|solver| solver.most_rounds == usize::MAX);
+    growing(rounds, &solvers);
 }
