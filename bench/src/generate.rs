@@ -508,3 +508,14 @@ pub fn tall_table(rows: usize) -> Vec<u16> {
     let last = (rows - 1).min(65_535) as u16;
     [0, last, last].repeat(rows)
 }
+
+/// a x <= 0 and b y <= 0 and 0x <= -1: a x <= 0 reaches 0 to -a, so that there are (a + 1)(b + 1) states, none of which accepts.
+pub fn never_accepting(a: i32, b: i32) -> Vec<u8> {
+    let mut question = Question::empty();
+    question.n = 2;
+    question.codes[..5].copy_from_slice(&[AND, AND, AT_MOST, AT_MOST, AT_MOST]);
+    question.coefficients[0] = a;
+    question.coefficients[7] = b;
+    question.constants[2] = -1;
+    bytes_of(&question).expect("within the limits")
+}

@@ -5,7 +5,8 @@
 
 #[cfg(feature = "proved")]
 use pelohuaki_bench::proved;
-use pelohuaki_bench::reading::{Building, Decision, Question, AND, AT_MOST};
+use pelohuaki_bench::generate::never_accepting;
+use pelohuaki_bench::reading::{Building, Decision, Question};
 use pelohuaki_bench::{plain, reading, vectors};
 use std::hint::black_box;
 use std::time::Instant;
@@ -87,23 +88,12 @@ fn report(title: &str, solvers: &[Solver], times: &[Time], transitions: usize, c
     }
 }
 
-/// a x <= 0 and b y <= 0 and 0x <= -1: (a + 1)(b + 1) states, none of which accepts.
-fn never(a: i32, b: i32) -> Vec<u8> {
-    let mut question = Question::empty();
-    question.n = 2;
-    question.codes[..5].copy_from_slice(&[AND, AND, AT_MOST, AT_MOST, AT_MOST]);
-    question.coefficients[0] = a;
-    question.coefficients[7] = b;
-    question.constants[2] = -1;
-    reading::bytes_of(&question).expect("within the limits")
-}
-
 /// One family of questions at several sizes, by the fast solvers.
 fn growing(rounds: usize, solvers: &[Solver]) {
     for (a, b) in [(24, 39), (99, 99), (239, 249)] {
         let states = (a as usize + 1) * (b as usize + 1);
         let calls = 60_000 / states;
-        let question = never(a, b);
+        let question = never_accepting(a, b);
         let mut keys = vec![0; states * 3];
         let mut path = vec![0; states * 2];
         let mut table = vec![0; states * 5];

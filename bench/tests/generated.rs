@@ -280,15 +280,8 @@ fn many_states() {
         }
     }
 
-    // a x <= 0 reaches 0 to -a. With b y <= 0 beside it, and 0x <= -1 so that nothing accepts, that makes (a + 1)(b + 1) states.
     for (a, b, states) in [(216, 301, 65_534), (254, 256, 65_535), (255, 255, 65_536), (300, 300, 90_601)] {
-        let mut question = Question::empty();
-        question.n = 2;
-        question.codes[..5].copy_from_slice(&[AND, AND, AT_MOST, AT_MOST, AT_MOST]);
-        question.coefficients[0] = a;
-        question.coefficients[7] = b;
-        question.constants[2] = -1;
-        let bytes = bytes_of(&question).unwrap();
+        let bytes = never_accepting(a, b);
         for rows in [65_534, 65_535, 65_536, 70_000] {
             let lent = rows.min(65_535);
             let decided = compare_decide(&bytes, vec![5; rows * 3], vec![5; rows * 2], vec![5; 64]);

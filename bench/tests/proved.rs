@@ -2,7 +2,7 @@
 #![cfg(feature = "proved")]
 
 use pelohuaki_bench::generate::*;
-use pelohuaki_bench::reading::{bytes_of, Building, Decision, Question, AND, AT_MOST};
+use pelohuaki_bench::reading::{Building, Decision};
 use pelohuaki_bench::{plain, proved, vectors};
 use std::collections::BTreeMap;
 
@@ -117,13 +117,7 @@ fn list_blocks_and_coconuts() {
 fn many_states() {
     // (a + 1)(b + 1) states, none of which accepts
     for (a, b) in [(0, 254), (15, 15), (0, 256), (24, 39), (216, 301), (254, 256), (255, 255), (300, 300)] {
-        let mut question = Question::empty();
-        question.n = 2;
-        question.codes[..5].copy_from_slice(&[AND, AND, AT_MOST, AT_MOST, AT_MOST]);
-        question.coefficients[0] = a;
-        question.coefficients[7] = b;
-        question.constants[2] = -1;
-        let bytes = bytes_of(&question).unwrap();
+        let bytes = never_accepting(a, b);
         for rows in [255, 256, 257, 65_534, 65_535, 70_000] {
             compare_decide(&bytes, vec![5; rows * 3], vec![5; rows * 2], vec![5; 64]);
             compare_build(&bytes, vec![5; rows * 3], vec![5; rows * 5]);
