@@ -6,12 +6,11 @@ use Prim.Native.Nat.{ℕ, _+_, _*_, _≤_, _<_}
 use native.Mathlib.Omega.{arith}
 use lib.ListN.{length, take, set, length-set}
 use lib.Seq.{take-all}
-use lib.IntN.{ℤ, pos}
+use lib.IntN.{ℤ}
 use Rattle.scope.specs.Question.{nodeOf}
 use Rattle.scope.specs.States.{formulaWorth}
 use Rattle.scope.specs.Numbering.{Machine, row, numbered}
 use Rattle.scope.specs.Building.{tableRow}
-use Rattle.step.specs.Eight.{padded}
 use Rattle.step.specs.Cells.{stepCells, worthCells}
 use Rattle.index.specs.Index.{Finds}
 use Rattle.explore.specs.Machine.{cell-letters}
@@ -50,7 +49,7 @@ module _ {codes kinds : List ℕ} {m : ℕ} {sums : List ℤ} {letters : ℕ} {k
   }
 
   pub next-written : {a : ℕ} {part : List ℕ} → a < letters → Begun codes kinds m sums letters keys count s a part
-      → (v : ℕ) → Finds keys m (padded (pos 0) (stepCells kinds m sums a keys (s * m))) count v → Begun codes kinds m sums letters keys count s (a + 1) (set part (1 + a) v)
+      → (v : ℕ) → Finds keys m (stepCells kinds m sums a keys (s * m)) count v → Begun codes kinds m sums letters keys count s (a + 1) (set part (1 + a) v)
   next-written {a} {part} h g v f = record {
     low = omega arith;
     size = rw length-set (g .size);

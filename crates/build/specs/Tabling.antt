@@ -9,6 +9,7 @@ use native.Mathlib.Nat.{zero-add}
 use native.Mathlib.Decide.{decLt}
 use native.Mathlib.Omega.{arith}
 use lib.ListN.{length, getD, take}
+use lib.Seq.{take-all}
 use lib.IntN.{ℤ, pos}
 use Rattle.scope.specs.Question.{nodeOf}
 use Rattle.scope.specs.States.{formulaWorth}
@@ -18,8 +19,9 @@ use Rattle.theory.specs.Table.{numbered-rooted}
 use Rattle.theory.specs.Simulation.{AllGood, good-[], good-∷}
 use Rattle.index.specs.Rows.{rowAt, row-cell, row-end}
 use Rattle.index.specs.Index.{Finds}
-use Rattle.step.specs.Eight.{listed, padded, length-listed, getD-listed, listed-is, take-padded}
+use Rattle.step.specs.Eight.{listed, length-listed, getD-listed, listed-is}
 use Rattle.step.specs.Cells.{stepAt, worthAt, stepCells, worthCells, Stepping}
+use Rattle.step.specs.Laws.{step-length}
 use Rattle.explore.specs.Machine.{cellMachine, cell-letters, cell-step, cell-accepts, cell-lawful, KeyRow}
 use Rattle.explore.specs.Areas.{rowCells, pathRows, Held, held-row}
 use Rattle.explore.specs.Standing.{Task}
@@ -56,6 +58,10 @@ module _ {M : Machine (List ℤ)} {m count : ℕ} {keys : List ℤ} (a : AllTher
 
   pub state-fits : (t : ℕ) → t < count → KeyRow m (row M (numbered M count) t .state)
   state-fits t h = good-at M m (a .good) t (omega (arith, a .size))
+
+-- what is found of a key is known by its first m cells
+pub found-of : {keys : List ℤ} {m : ℕ} {key other : List ℤ} {count r : ℕ} → take m key ≡ take m other → Finds keys m key count r → Finds keys m other count r
+found-of e f = record { low = f .low; row = λ h. f .row h ∙ e; none = λ h s l q. f .none h s l (q ∙ sym e) }
 
 -- a row's target and worths, from the row's own cells
 module _ (kinds : List ℕ) (m : ℕ) (keys : List ℤ) (s : ℕ) where
@@ -102,16 +108,15 @@ module _ {codes kinds : List ℕ} {m : ℕ} {sums : List ℤ} {letters : ℕ} {k
 
   -- the target's cells
   target-is : (letter : ℕ) → let M = machineIn codes kinds m sums letters keys in
-      take m (padded (pos 0) (stepCells kinds m sums letter keys (s * m))) ≡ M .step (row M (numbered M count) s .state) letter
-  unfolding stepCells
+      take m (stepCells kinds m sums letter keys (s * m)) ≡ M .step (row M (numbered M count) s .state) letter
   target-is letter =
-      take-padded (pos 0) (stepCells kinds m sums letter keys (s * m)) m (length-listed _ m)
+      take-all m (stepCells kinds m sums letter keys (s * m)) (omega (arith, step-length kinds m sums letter keys (s * m)))
       ∙ step-is kinds m keys s sums letter
       ∙ ap (λ (k : List ℤ). stepCells kinds m sums letter k 0) (state-is (t .there) s below)
       ∙ sym (cell-step codes kinds m sums letters (take m keys) _ letter)
 
   -- the row that has them is the target's number
-  pub found-is : (letter r : ℕ) → letter < letters → Finds keys m (padded (pos 0) (stepCells kinds m sums letter keys (s * m))) count r
+  pub found-is : (letter r : ℕ) → letter < letters → Finds keys m (stepCells kinds m sums letter keys (s * m)) count r
       → let M = machineIn codes kinds m sums letters keys in
       r ≡ numberOf M (numbered M count) (M .step (row M (numbered M count) s .state) letter)
   found-is letter r h f =

@@ -17,11 +17,9 @@ ghost use mathlib.Core.Bool.{cond, false};
 ghost use mathlib.Core.List.{[]};
 ghost use Prim.Native.Nat.{_+_, _*_, _/_, _≤_, _<_, min};
 ghost use lib.ListN.{length};
-ghost use lib.IntN.{pos};
 ghost use Rattle.scope.specs.Sizes.{mostStates};
 ghost use Rattle.scope.specs.Building.{builtQuestion, built};
 ghost use Rattle.theory.specs.Accepted.{WithinLimits};
-ghost use Rattle.step.specs.Eight.{padded};
 ghost use Rattle.step.specs.Cells.{stepCells, Stepping};
 ghost use Rattle.index.specs.Index.{Indexed, Finds};
 ghost use Rattle.explore.specs.Standing.{Task};
@@ -38,7 +36,7 @@ const FEW: usize = 256;
 // The same of the large index.
 const MANY: usize = 65_536;
 
-// The row that has the cells to which a letter leads from a row.
+// The row that has the cells to which a letter leads from a row. They are worked in a row that is lent.
 fn next_state(
     kinds: &[u8; 8],
     m: usize,
@@ -49,13 +47,16 @@ fn next_state(
     next: &[u16],
     count: usize,
     row: usize,
+    key: &mut [i32; 8],
 ) -> u16
     requires { ⌜ Indexed (now keys) m (now head) (now next) count ⌝ }
     requires { ⌜ Stepping m (now sums) letter (now keys) (row * m) ⌝ }
-    ensures { λ r. ⌜ Finds (now (keys .entry)) m (padded (pos 0) (stepCells (now (kinds .entry)) m (now (sums .entry)) letter (now (keys .entry)) (row * m))) count r ⌝ }
+    requires { ⌜ m ≤ length (now key) ⌝ }
+    ensures { λ r. ⌜ Finds (now (keys .entry)) m (stepCells (now (kinds .entry)) m (now (sums .entry)) letter (now (keys .entry)) (row * m)) count r ⌝ }
+    ensures { λ _. ⌜ m ≤ length (now (key .exit)) ⌝ }
 {
-    let key = step_row(kinds, m, sums, letter, keys, row * m);
-    find(keys, m, &key, head, next, count) as u16
+    step_row(kinds, m, sums, letter, keys, row * m, key);
+    find(keys, m, key, head, next, count) as u16
 }
 
 // The first cell of a row.
@@ -85,9 +86,21 @@ fn write_row(
     ensures { λ _. ⌜ now (part .exit) ≡ rowOf (now (codes .entry)) (now (kinds .entry)) m (now (sums .entry)) letters (now (keys .entry)) count row ⌝ }
 {
     part[0] = mark(accepts(codes, kinds, m, keys, row * m));
+    let mut key = [0i32; 8];
     let mut letter = 0;
     while letter < letters {
-        part[1 + letter] = next_state(kinds, m, sums, letter, keys, head, next, count, row);
+        part[1 + letter] = next_state(
+            kinds,
+            m,
+            sums,
+            letter,
+            keys,
+            head,
+            next,
+            count,
+            row,
+            &mut key,
+        );
         letter += 1;
     }
 }

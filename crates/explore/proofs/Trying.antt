@@ -12,8 +12,8 @@ use Rattle.scope.specs.Numbering.{Machine, Rows, row}
 use Rattle.theory.specs.Lawful.{Lawful}
 use Rattle.theory.specs.Exploring.{partial, target, New}
 use Rattle.theory.specs.Simulation.{AllGood}
-use Rattle.step.specs.Eight.{padded, length-padded, take-padded, length-listed}
 use Rattle.step.specs.Cells.{Stepping, stepCells, worthCells}
+use Rattle.step.specs.Laws.{Worked}
 use Rattle.index.specs.Rows.{rowAt, row-end, row-cell}
 use Rattle.index.specs.Index.{Finds}
 use Rattle.explore.specs.declared.Stand.{Stand}
@@ -88,24 +88,17 @@ module _ {codes kinds : List ℕ} {m : ℕ} {sums : List ℤ} {letters : ℕ} {s
     sums-fit = λ j h. task .sums-fit a j letter-below h;
   }
 
-  module _ {key : List ℤ} (key-is : key ≡ padded (pos 0) (stepCells kinds m sums a keys (i * m))) where
-    cells-long : length (stepCells kinds m sums a keys (i * m)) ≡ m
-    unfolding stepCells
-    cells-long = length-listed _ m
-
-    pub key-long : m ≤ length key
-    key-long = rw (key-is, length-padded (pos 0) (stepCells kinds m sums a keys (i * m)) (omega (arith, cells-long, task .atoms))) (task .atoms)
-
+  module _ {key : List ℤ} (worked : Worked kinds m sums a keys (i * m) key) where
     pub target-is : take m key ≡ target M (partial M i a) i a
     target-is =
-        rw key-is (take-padded (pos 0) (stepCells kinds m sums a keys (i * m)) m cells-long)
+        worked .cells
         ∙ step-of-row kinds m keys i sums a
         ∙ ap (λ (cells : List ℤ). stepCells kinds m sums a cells 0) row-is
         ∙ sym (runs .steps _ a)
 
     pub room-for : count < rows → RowRoom m deciding count key keys path
     room-for h = record {
-      long = key-long;
+      long = worked .long;
       keys-room = omega (arith, row-end count rows m h, s .rows-there .lent .keys-room);
       path-room = let e : count + 1 ≤ rows = omega arith in omega (arith, path-count-le deciding (count + 1) rows e, s .rows-there .lent .path-room);
     }

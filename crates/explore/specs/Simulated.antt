@@ -13,18 +13,16 @@ use lib.IntN.{ℤ, pos}
 use Rattle.scope.specs.declared.Question.{Question}
 use Rattle.scope.specs.Whole.{joined, atFront}
 use Rattle.scope.specs.Question.{Atom, nodeOf, nodesOf, atomsOf, atomCount}
-use Rattle.scope.specs.States.{State, cellOf, cellsOf, startOf, stepOf, worthsOf, sameState, formulaWorth, accepting}
+use Rattle.scope.specs.States.{State, cellOf, cellsOf, startOf, stepOf, sameState, formulaWorth, accepting}
 use Rattle.scope.specs.Numbering.{Machine, Rows, machineOf, numbered}
 use Rattle.scope.specs.Deciding.{counted, keyCells}
 use Rattle.theory.specs.Lawful.{same-state-sound, same-state-refl}
 use Rattle.theory.specs.Range.{StateIn, length-in, startOf-in, stepOf-in}
 use Rattle.theory.specs.Cells.{AtomsFit, cellsOf-injective}
 use Rattle.theory.specs.Simulation.{Simulates, rowsMap, states-map, paths-map, same-verdict, same-length, same-counted}
-use Rattle.formula.specs.Alike.{worth-alike}
-use Rattle.step.specs.Eight.{padded, take-padded, getD-padded, length-listed}
-use Rattle.step.specs.Cells.{CellFits, stepAt, stepCells, worthCells}
+use Rattle.step.specs.Cells.{CellFits, stepCells, worthCells}
 use Rattle.step.specs.Atoms.{few-atoms, limits-fit}
-use Rattle.step.specs.Laws.{Tables, KeyRow, stepping, row-target, row-worths}
+use Rattle.step.specs.Laws.{Tables, KeyRow, stepping, stepped, worths}
 use Rattle.explore.specs.declared.Explored.{Explored}
 use Rattle.explore.specs.Machine.{sameCells, same-cells-sound, same-cells-refl, cellMachine}
 use Rattle.explore.specs.Areas.{rowCells, pathRows}
@@ -54,16 +52,11 @@ module _ {q : Question} {kinds : List ℕ} {m : ℕ} {sums : List ℤ} (t : Tabl
   pub row-accepts : {keys : List ℤ} {at : ℕ} {es : State} → KeyRow q m keys at es
       → formulaWorth (map nodeOf (q .codes)) (worthCells kinds m keys at) ≡ machineOf q .accepts es
   unfolding machineOf accepting nodesOf
-  row-accepts {keys} {at} {es} r =
-      worth-alike (nodesOf q) (worthCells kinds m keys at) (worthsOf (atomsOf q) es)
-      (λ i. sym (getD-padded false (worthCells kinds m keys at) i) ∙ row-worths t r (padded false (worthCells kinds m keys at)) refl .0 i)
+  row-accepts r = ap (formulaWorth (nodesOf q)) (worths t r)
 
   row-steps : {es : State} → StateIn (atomsOf q) es → (letter : ℕ) → letter < 2 ^ q .n
       → stepCells kinds m sums letter (cellsOf es) 0 ≡ cellsOf (stepOf (atomsOf q) es letter)
-  unfolding stepCells
-  row-steps {es} i letter h =
-      sym (take-padded (pos 0) (stepCells kinds m sums letter (cellsOf es) 0) m (length-listed (stepAt kinds sums letter (cellsOf es) 0) m))
-      ∙ row-target t (cells-row i) letter h (padded (pos 0) (stepCells kinds m sums letter (cellsOf es) 0)) refl .0
+  row-steps i letter h = stepped t (cells-row i) letter h
 
   pub simulates : Simulates (machineOf q) (cellMachine (q .codes) kinds m sums (2 ^ q .n) (cellsOf (startOf (atomsOf q)))) cellsOf (StateIn (atomsOf q))
   unfolding machineOf cellMachine

@@ -125,7 +125,8 @@ pub fn accepts(codes: &[u8; 64], kinds: &[u8; 8], m: usize, keys: &[i32], at: us
     requires { ⌜ (length (now codes) ≡ 64) × (m ≤ 8) × (at + m ≤ length (now keys)) ⌝ }
     ensures { λ r. ⌜ r ≡ formulaWorth (map nodeOf (now (codes .entry))) (worthCells (now (kinds .entry)) m (now (keys .entry)) at) ⌝ }
 {
-    let worths = worths_at(kinds, m, keys, at);
+    let mut worths = [false; 8];
+    worths_at(kinds, m, keys, at, &mut worths);
     formula_worth(codes, &worths)
 }
 
@@ -172,7 +173,7 @@ fn add_row(
     asks_accepts(codes, kinds, m, keys, count * m, deciding)
 }
 
-// Tries a letter at a row: its target has a row already, or gets the next one, or there is none left.
+// Tries a letter at a row: its target, worked in a row that is lent, has a row already, or gets the next one, or there is none left.
 fn try_letter(
     codes: &[u8; 64],
     kinds: &[u8; 8],
@@ -183,6 +184,7 @@ fn try_letter(
     path: &mut [u16],
     head: &mut [u16],
     next: &mut [u16],
+    key: &mut [i32; 8],
     rows: usize,
     deciding: bool,
     count: usize,
@@ -192,11 +194,12 @@ fn try_letter(
     requires { ⌜ Task (now codes) m (now sums) letters ⌝ }
     requires { ⌜ Stands (cellMachine (now codes) (now kinds) m (now sums) letters (take m (now keys))) m rows deciding (now keys) (now path) count row letter ⌝ }
     requires { ⌜ Linked m rows (now keys) (now head) (now next) count ⌝ }
-    requires { ⌜ row < count ⌝ }
+    requires { ⌜ (row < count) × (m ≤ length (now key)) ⌝ }
     ensures { λ r. ⌜ Tried (cellMachine (now (codes .entry)) (now (kinds .entry)) m (now (sums .entry)) letters (take m (now (keys .entry)))) m rows deciding (now (keys .entry)) (now (path .entry)) count row letter (now (keys .exit)) (now (path .exit)) (now (head .exit)) (now (next .exit)) r ⌝ }
+    ensures { λ _. ⌜ m ≤ length (now (key .exit)) ⌝ }
 {
-    let key = step_row(kinds, m, sums, letter, keys, row * m);
-    if find(keys, m, &key, head, next, count) < count {
+    step_row(kinds, m, sums, letter, keys, row * m, key);
+    if find(keys, m, key, head, next, count) < count {
         return Stand::after(letters, count, row, letter);
     }
     if count == rows {
@@ -211,7 +214,7 @@ fn try_letter(
         head,
         next,
         deciding,
-        &key,
+        key,
         count,
         row,
         letter,
@@ -243,6 +246,7 @@ fn explore(
     requires { ⌜ Linked m rows (now keys) (now head) (now next) count ⌝ }
     ensures { λ r. ⌜ Ended (cellMachine (now (codes .entry)) (now (kinds .entry)) m (now (sums .entry)) letters (take m (now (keys .entry)))) m rows deciding (now (keys .entry)) (now (path .entry)) count (now (keys .exit)) (now (path .exit)) r ⌝ }
 {
+    let mut key = [0i32; 8];
     let mut s = Stand::going(count, row, letter);
     while s.row < s.count {
         s = try_letter(
@@ -255,6 +259,7 @@ fn explore(
             path,
             head,
             next,
+            &mut key,
             rows,
             deciding,
             s.count,

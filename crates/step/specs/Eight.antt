@@ -1,4 +1,4 @@
--- Lists by their elements, and such a list in an array of eight with the rest filled up.
+-- Lists by their elements, and such a list in an array of eight: with the rest filled up, or left as it was.
 use mathlib.Core.Path.{_≡_, refl, sym, ap, _∙_}
 use mathlib.Core.List.{List, [], _∷_, _++_, append-assoc}
 use Prim.Native.Nat.{ℕ, zero, suc, _+_, _-_, _≤_, _<_}
@@ -6,8 +6,9 @@ use native.Mathlib.Omega.{arith}
 use native.Mathlib.Decide.{decLt}
 use native.Mathlib.Numerals.{add-one}
 use mathlib.Core.Logic.{by-cases}
-use lib.ListN.{length, getD, take, set, replicate, length-append, length-replicate, List·getD-append, List·getD-eq-default}
-use lib.Seq.{ext-getD, set-append-seam, getD-at, getD-append-add, take-at}
+use lib.ListN.{length, getD, drop, set, replicate, length-append, List·getD-append, List·getD-eq-default}
+use lib.Seq.{ext-getD, drop-cons, set-append-seam, set-at, getD-at, getD-append-add}
+use Rattle.scope.specs.Whole.{atFront}
 
 -- f 0, f 1, .., the first n
 unfoldable pub listed {ℓ} : {A : Type ℓ} → (ℕ → A) → ℕ → List A
@@ -38,14 +39,6 @@ module _ {ℓ} {A : Type ℓ} where
       ext-getD d (listed f n) l (length-listed f n ∙ sym e)
       (λ i h. let b : i < n = rw (length-listed f n) at h in getD-listed f n i d b ∙ same i b)
 
-  pub length-padded : (z : A) (l : List A) → length l ≤ 8 → length (padded z l) ≡ 8
-  unfolding padded
-  length-padded z l h = simp (length-append, length-replicate) (omega arith)
-
-  pub take-padded : (z : A) (l : List A) (n : ℕ) → length l ≡ n → take n (padded z l) ≡ l
-  unfolding padded
-  take-padded z l n h = take-at l (replicate (8 - length l) z) n h
-
   -- filled up, it reads as before
   pub getD-padded : (z : A) (l : List A) (i : ℕ) → getD (padded z l) i z ≡ getD l i z
   unfolding padded
@@ -71,9 +64,13 @@ module _ {ℓ} {A : Type ℓ} where
       let e : 8 - length l ≡ suc (8 - (length l + 1)) = omega arith in
       rw (e, length-append) (set-append-seam l z (replicate (8 - (length l + 1)) z) v ∙ sym (append-assoc l (v ∷ []) (replicate (8 - (length l + 1)) z)))
 
-  -- one more element stored
-  pub listed-next : (z : A) (f : ℕ → A) (i : ℕ) → i < 8 → set (padded z (listed f i)) i (f i) ≡ padded z (listed f (i + 1))
-  unfolding listed
-  listed-next z f i h =
-      let e = length-listed f i in
-      rw (add-one i) (ap (λ (k : ℕ). set (padded z (listed f i)) k (f i)) (sym e) ∙ padded-next z (f i) (listed f i) (rw e h))
+  -- such a list at the front of a buffer: none of it, and one more element stored
+  pub front-none : (f : ℕ → A) (buffer : List A) → buffer ≡ atFront (listed f 0) buffer
+  unfolding listed atFront
+  front-none f buffer = refl
+
+  pub front-next : (f : ℕ → A) (i : ℕ) (buffer : List A) → i < length buffer → set (atFront (listed f i) buffer) i (f i) ≡ atFront (listed f (i + 1)) buffer
+  unfolding listed atFront
+  front-next f i buffer h =
+      rw (add-one i, length-append, length-listed f i, add-one i, append-assoc, drop-cons buffer i (f i) h)
+      (set-at (listed f i) (getD buffer i (f i)) (drop (suc i) buffer) (f i) i (length-listed f i))

@@ -12,14 +12,15 @@ use lib.ListN.{length, getD, take, drop, length-map, length-take, List·getD-map
 use lib.Seq.{ext-getD, getD-take, getD-drop}
 use lib.IntN.{ℤ, pos, _-ℤ_}
 use Rattle.scope.specs.declared.Question.{Question}
-use Rattle.scope.specs.Whole.{eqZ}
+use Rattle.scope.specs.Whole.{eqZ, atFront}
 use Rattle.scope.specs.Question.{Kind, equation, atMost, Atom, atomsOf, atomCount}
 use Rattle.scope.specs.States.{Entry, dead, live, State, deadCell, cellOf, cellsOf, sumAt, startEntry, startOf, halved, stepEntry, stepOf, worth, worthsOf}
 use Rattle.theory.specs.Integers.{eqZ→eq}
+use Rattle.theory.specs.Joined.{atFront-cells, atFront-length}
 use Rattle.theory.specs.Range.{EntryIn, in-dead, in-live, StateIn, length-in, entry-in}
 use Rattle.theory.specs.Accepted.{WithinLimits}
 use Rattle.theory.specs.Cells.{AtomFits, fits-at, sum-size, live-size, live-not-dead}
-use Rattle.step.specs.Eight.{length-listed, listed-is, padded, length-padded, take-padded, getD-padded}
+use Rattle.step.specs.Eight.{length-listed, listed-is, padded, getD-padded}
 use Rattle.step.specs.Cells.{kindOf, kindCodes, stepCell, worthCell, stepAt, stepCells, worthAt, worthCells, CellFits, Stepping, Sums}
 use Rattle.step.specs.Atoms.{noAtom, atomAt, atom-coefficients, atom-constant, atom-kind, few-atoms, limits-fit}
 
@@ -56,6 +57,29 @@ cell-worth a dead = low (a .kind)
     low : (κ : Kind) → worthCell κ deadCell ≡ false
     low equation = refl
     low atMost = refl
+
+-- ---- a row
+
+pub step-length : (kinds : List ℕ) (m : ℕ) (sums : List ℤ) (letter : ℕ) (keys : List ℤ) (at : ℕ) → length (stepCells kinds m sums letter keys at) ≡ m
+unfolding stepCells
+step-length kinds m sums letter keys at = length-listed (stepAt kinds sums letter keys at) m
+
+pub worth-length : (kinds : List ℕ) (m : ℕ) (keys : List ℤ) (at : ℕ) → length (worthCells kinds m keys at) ≡ m
+unfolding worthCells
+worth-length kinds m keys at = length-listed (worthAt kinds keys at) m
+
+-- the key's first m cells are the target of the row that starts at cell `at`
+pub record Worked (kinds : List ℕ) (m : ℕ) (sums : List ℤ) (letter : ℕ) (keys : List ℤ) (at : ℕ) (key : List ℤ) : Type 0 where
+  pub long : m ≤ length key
+  pub cells : take m key ≡ stepCells kinds m sums letter keys at
+
+-- at the front of the row that was lent
+pub front-worked : (kinds : List ℕ) (m : ℕ) (sums : List ℤ) (letter : ℕ) (keys : List ℤ) (at : ℕ) (lent : List ℤ) {key : List ℤ} → m ≤ length lent
+    → key ≡ atFront (stepCells kinds m sums letter keys at) lent → Worked kinds m sums letter keys at key
+front-worked kinds m sums letter keys at lent room is =
+    let cells = stepCells kinds m sums letter keys at in
+    let size = step-length kinds m sums letter keys at in
+    record { long = rw (is, atFront-length cells lent (rw size room)) room; cells = rw is (atFront-cells cells lent m size) }
 
 -- ---- by index
 
@@ -152,7 +176,8 @@ module _ {q : Question} {kinds : List ℕ} {m : ℕ} {sums : List ℤ} (t : Tabl
       sums-fit = λ i h. rw (sum-at i h letter l) (sum-size (fits i h) letter);
     }
 
-    stepped : (letter : ℕ) → letter < 2 ^ q .n → stepCells kinds m sums letter keys at ≡ cellsOf (stepOf (atomsOf q) es letter)
+    -- its target
+    pub stepped : (letter : ℕ) → letter < 2 ^ q .n → stepCells kinds m sums letter keys at ≡ cellsOf (stepOf (atomsOf q) es letter)
     unfolding stepCells
     stepped letter l =
         let next = stepOf (atomsOf q) es letter in
@@ -162,30 +187,13 @@ module _ {q : Question} {kinds : List ℕ} {m : ℕ} {sums : List ℤ} (t : Tabl
         rw (kind-at i h, key-at i h, sum-at i h letter l)
         (cell-step (fits i h) (in-at i h) letter ∙ sym (cells-at next i ∙ ap cellOf (step-at (atomsOf q) es letter i long (rw counts h)))))
 
-    -- what step_row gives
-    pub row-target : (letter : ℕ) → letter < 2 ^ q .n → (row : List ℤ) → row ≡ padded (pos 0) (stepCells kinds m sums letter keys at)
-        → (take m row ≡ cellsOf (stepOf (atomsOf q) es letter)) × (length row ≡ 8)
-    unfolding stepCells
-    row-target letter l row e =
-        let n : length (stepCells kinds m sums letter keys at) ≡ m = length-listed (stepAt kinds sums letter keys at) m in
-        let few : length (stepCells kinds m sums letter keys at) ≤ 8 = rw (n, t .count) (few-atoms (t .limits)) in
-        rw e (take-padded (pos 0) (stepCells kinds m sums letter keys at) m n ∙ stepped letter l, length-padded (pos 0) (stepCells kinds m sums letter keys at) few)
-
-    worths : worthCells kinds m keys at ≡ worthsOf (atomsOf q) es
+    -- what the atoms are worth at it
+    pub worths : worthCells kinds m keys at ≡ worthsOf (atomsOf q) es
     unfolding worthCells
     worths =
         listed-is false (worthAt kinds keys at) m (worthsOf (atomsOf q) es)
         (length-worths (atomsOf q) es long ∙ counts)
         (λ i h. rw (kind-at i h, key-at i h) (cell-worth (atomAt q i) (getD es i noEntry) ∙ sym (worth-at (atomsOf q) es i long (rw counts h))))
-
-    -- what worths_at gives reads as the atoms' worths
-    pub row-worths : (ws : List Bool) → ws ≡ padded false (worthCells kinds m keys at)
-        → ((i : ℕ) → getD ws i false ≡ getD (worthsOf (atomsOf q) es) i false) × (length ws ≡ 8)
-    unfolding worthCells
-    row-worths ws e =
-        let n : length (worthCells kinds m keys at) ≡ m = length-listed (worthAt kinds keys at) m in
-        let few : length (worthCells kinds m keys at) ≤ 8 = rw (n, t .count) (few-atoms (t .limits)) in
-        rw e (λ i. getD-padded false (worthCells kinds m keys at) i ∙ ap (λ (l : List Bool). getD l i false) worths, length-padded false (worthCells kinds m keys at) few)
 
 -- ---- the start
 

@@ -2,11 +2,11 @@
 use scope::Question;
 use whole::floor_half;
 ghost use mathlib.Core.Path.{_≡_};
-ghost use mathlib.Core.Bool.{false};
 ghost use Prim.Native.Nat.{_+_, _*_, _^_, _≤_, _<_};
 ghost use lib.ListN.{length, take, drop};
-ghost use lib.IntN.{pos, natAbs};
+ghost use lib.IntN.{natAbs};
 ghost use Rattle.theory.specs.Sums.{Small};
+ghost use Rattle.scope.specs.Whole.{atFront};
 ghost use Rattle.scope.specs.States.{sumAt};
 ghost use Rattle.step.specs.Eight.{padded};
 ghost use Rattle.step.specs.Cells.{kindOf, kindCodes, stepCell, worthCell, stepCells, worthCells, CellFits, Stepping, Coefficients, Sums};
@@ -30,7 +30,7 @@ fn step_cell(kind: u8, cell: i32, sum: i32) -> i32
     floor_half(cell, sum)
 }
 
-// The target of the key row that starts at cell `at`, with 0 past its cells.
+// Writes the target of the key row that starts at cell `at` at the front of a row that is lent: the cells past the target stay.
 pub fn step_row(
     kinds: &[u8; 8],
     m: usize,
@@ -38,18 +38,18 @@ pub fn step_row(
     letter: usize,
     keys: &[i32],
     at: usize,
-) -> [i32; 8]
+    row: &mut [i32; 8],
+)
     requires { ⌜ Stepping m (now sums) letter (now keys) at ⌝ }
-    ensures { λ r. ⌜ r ≡ padded (pos 0) (stepCells (now (kinds .entry)) m (now (sums .entry)) letter (now (keys .entry)) at) ⌝ }
+    requires { ⌜ m ≤ length (now row) ⌝ }
+    ensures { λ _. ⌜ now (row .exit) ≡ atFront (stepCells (now (kinds .entry)) m (now (sums .entry)) letter (now (keys .entry)) at) (now (row .entry)) ⌝ }
 {
     let base = Question::ATOMS * letter;
-    let mut row = [0i32; 8];
     let mut i = 0;
     while i < m {
         row[i] = step_cell(kinds[i], keys[at + i], sums[base + i]);
         i += 1;
     }
-    row
 }
 
 // What an atom is worth at its cell: a dead cell is below zero.
@@ -59,18 +59,16 @@ fn worth_cell(kind: u8, cell: i32) -> bool
     if kind == 1 { cell == 0 } else { 0 <= cell }
 }
 
-// What each atom is worth at the key row that starts at cell `at`, and false past them.
-pub fn worths_at(kinds: &[u8; 8], m: usize, keys: &[i32], at: usize) -> [bool; 8]
-    requires { ⌜ (m ≤ 8) × (at + m ≤ length (now keys)) ⌝ }
-    ensures { λ r. ⌜ r ≡ padded false (worthCells (now (kinds .entry)) m (now (keys .entry)) at) ⌝ }
+// Writes what each atom is worth at the key row that starts at cell `at` at the front of the worths that are lent: those past the atoms stay.
+pub fn worths_at(kinds: &[u8; 8], m: usize, keys: &[i32], at: usize, worths: &mut [bool; 8])
+    requires { ⌜ (m ≤ 8) × (at + m ≤ length (now keys)) × (m ≤ length (now worths)) ⌝ }
+    ensures { λ _. ⌜ now (worths .exit) ≡ atFront (worthCells (now (kinds .entry)) m (now (keys .entry)) at) (now (worths .entry)) ⌝ }
 {
-    let mut worths = [false; 8];
     let mut i = 0;
     while i < m {
         worths[i] = worth_cell(kinds[i], keys[at + i]);
         i += 1;
     }
-    worths
 }
 
 // The atoms' kinds in their order, 1 equation and 2 at most, with 0 past them; and how many there are.

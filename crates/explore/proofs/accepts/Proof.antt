@@ -1,15 +1,25 @@
--- `explore::accepts` meets its contract: the formula's worth at the worths of the row, which the array fills up with false. Assumes nothing.
+-- `explore::accepts` meets its contract: the formula's worth at the worths of the row, behind which the array is false. Assumes nothing.
 use mathlib.Core.Path.{_∙_}
+use mathlib.Core.Bool.{false}
 use borrow.Author.Needs.{needs}
+use lib.ListN.{replicate}
+use Rattle.theory.specs.Joined.{atFront-length}
 use Rattle.formula.specs.Alike.{worth-alike}
-use Rattle.explore.proofs.Cells.{alike-padded}
+use Rattle.step.specs.Cells.{worthCells}
+use Rattle.step.specs.Laws.{worth-length}
+use Rattle.explore.proofs.Cells.{alike-front}
 use Rattle.explore.proofs.accepts.Statement.{statement}
 use Rattle.explore.proofs.accepts.Tie as tie
 
+formula-worth-requires : tie.Need-formula-worth-requires
+formula-worth-requires c κs =
+    let start = c .before .before .before in
+    let a = start .args in
+    let size = worth-length (a .kinds .now) (a .m) (a .keys .now) (a .at) in
+    (start .pre .0, rw (c .before .worths-at .ensures) (atFront-length (worthCells (a .kinds .now) (a .m) (a .keys .now) (a .at)) (replicate 8 false) (rw size (start .pre .1))))
+
 returns : tie.Need-returns
-returns c =
-    let w = c .before .before .worths-at in
-    rw (w .ensures) at (c .formula-worth .ensures) ∙ worth-alike _ _ _ (alike-padded _)
+returns c = rw (c .before .before .worths-at .ensures) at (c .formula-worth .ensures) ∙ worth-alike _ _ _ (alike-front 8 _)
 
 pub accepts-spec : {M : Type 1} → statement M
-accepts-spec = tie.close (tie.spec (λ c κs. search needs) (λ c κs. search needs) returns)
+accepts-spec = tie.close (tie.spec (λ c κs. search needs) formula-worth-requires returns)

@@ -1,26 +1,27 @@
--- `step::step_row` meets its contract. The invariant: the first i cells of the target stand, with 0 past them. The measure is m less i. Assumes nothing.
-use mathlib.Core.Path.{_≡_, refl}
+-- `step::step_row` meets its contract. The invariant: the first i cells of the target stand at the row's front. The measure is m less i. Assumes nothing.
+use mathlib.Core.Path.{_≡_}
 use Prim.Native.Nat.{_+_, _*_, _-_, _≤_, _<_}
 use native.Mathlib.Nat.{le-antisymm}
 use native.Mathlib.Omega.{arith}
 use borrow.Author.Needs.{needs}
-use lib.ListN.{getD}
+use lib.ListN.{length, getD}
 use lib.IntN.{pos}
-use Rattle.step.specs.Eight.{listed, padded, listed-next}
+use Rattle.scope.specs.Whole.{atFront}
+use Rattle.step.specs.Eight.{front-none, front-next}
 use Rattle.step.specs.Cells.{stepAt, stepCells}
 use Rattle.step.proofs.Signed.{read}
 use Rattle.step.proofs.step_row.Statement.{statement}
 use Rattle.step.proofs.step_row.Tie as tie
 
 abbrev Inv-loop : tie.InvT-loop
-Inv-loop kinds m sums letter keys at base row₀ i₀ row i = (i ≤ m) × (row ≡ padded (pos 0) (stepCells kinds i sums letter keys at))
+Inv-loop kinds m sums letter keys at row₀ base i₀ row i = (i ≤ m) × (row ≡ atFront (stepCells kinds i sums letter keys at) row₀)
 
 abbrev μ-loop : tie.MeasureT-loop
-μ-loop kinds m sums letter keys at base row₀ i₀ row i = m - i
+μ-loop kinds m sums letter keys at row₀ base i₀ row i = m - i
 
 loop-holds : tie.Need-loop-holds Inv-loop μ-loop
-unfolding padded stepCells listed
-loop-holds c = (search needs, refl)
+unfolding stepCells
+loop-holds c = (search needs, front-none _ _)
 
 step-cell-requires : tie.Need-step-cell-requires Inv-loop μ-loop
 step-cell-requires c κs =
@@ -30,7 +31,7 @@ step-cell-requires c κs =
     let below : i < start .args .m = omega arith in
     let key = read (getD (start .args .keys .now) (start .args .at + i) (pos 0)) (c .before .step-cell-arg2 .given) in
     let sum = read (getD (start .args .sums .now) (8 * start .args .letter + i) (pos 0)) (c .step-cell-arg3 .given) in
-    rw (key, sum) (start .pre .cells i below, start .pre .sums-fit i below)
+    rw (key, sum) (start .pre .0 .cells i below, start .pre .0 .sums-fit i below)
 
 loop-again : tie.Need-loop-again Inv-loop μ-loop
 unfolding stepCells
@@ -42,8 +43,8 @@ loop-again c =
     let key = read (getD (a .keys .now) (a .at + i) (pos 0)) (c .before .before .step-cell-arg2 .given) in
     let sum = read (getD (a .sums .now) (8 * a .letter + i) (pos 0)) (c .before .step-cell-arg3 .given) in
     let cell : c .step-cell .result ≡ f i = rw (key, sum) at (c .step-cell .ensures) in
-    let eighth : i < 8 = omega arith in
-    (search needs, rw (read (c .step-cell .result) (c .step-cell .ok), at-loop .loop .inv .1, cell) (listed-next (pos 0) f i eighth))
+    let room : i < length (a .row .now) = omega (arith, at-loop .before .pre .1) in
+    (search needs, rw (read (c .step-cell .result) (c .step-cell .ok), at-loop .loop .inv .1, cell) (front-next f i (a .row .now) room))
 
 returns : tie.Need-returns Inv-loop μ-loop
 returns c = rw (le-antisymm (c .before .loop .inv .0) (c .loop-test .left)) at (c .before .loop .inv .1)
