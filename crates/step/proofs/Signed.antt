@@ -2,12 +2,12 @@
 use mathlib.Core.Path.{_≡_, refl, sym, ap, _∙_}
 use mathlib.Core.Logic.{_≢_, inl, inr}
 use mathlib.Core.Bool.{true, false}
-use Prim.Native.Nat.{ℕ, zero, suc, _-_, _%_, _≤_, _<_}
+use Prim.Native.Nat.{ℕ, suc, _-_, _≤_, _<_}
 use native.Mathlib.Omega.{arith}
-use borrow.Author.Tests.{eq-eqb, ne-eqb}
+use borrow.Author.Tests.{ne-eqb}
 use lib.Dec.{eqb}
-use lib.IntN.{ℤ, pos, negsuc, negℤ, natAbs, _-ℤ_}
-use lib.Signed.{mag, remZ}
+use lib.IntN.{ℤ, pos, negsuc, natAbs, _-ℤ_}
+use lib.Signed.{mag}
 use mir.Syntax.{w32}
 use mir.Val.{SFits, ofZ, toZ}
 use mir.ValLaws.{toZ-ofZ}
@@ -33,19 +33,6 @@ live-bits z f e = f (ap (ofZ w32) e)
 pub zero-bits : (z : ℤ) → SFits w32 z → eqb (ofZ w32 z) 0 ≡ eqZ z (pos 0)
 zero-bits (pos n) f = refl
 zero-bits (negsuc n) f = let h : 4294967296 - suc n ≡ 0 → ⊥ = λ e. omega (arith, f .sfits) in ne-eqb (4294967296 - suc n) 0 h
-
--- the remainder by 2 is zero exactly where the number is even
-pub rem-even : (d : ℤ) → ofZ w32 (remZ d (pos 2)) ≡ 0 → even d ≡ true
-rem-even (pos a) e = eq-eqb (a % 2) 0 e
-rem-even (negsuc a) e = eq-eqb (suc a % 2) 0 (negated (suc a % 2) (omega arith) e)
-  where
-    negated : (k : ℕ) → k < 2 → ofZ w32 (negℤ (pos k)) ≡ 0 → k ≡ 0
-    negated zero h e = refl
-    negated (suc k) h e = absurd (omega arith)
-
-pub rem-odd : (d : ℤ) → (ofZ w32 (remZ d (pos 2)) ≡ 0 → ⊥) → even d ≡ false
-rem-odd (pos a) f = ne-eqb (a % 2) 0 f
-rem-odd (negsuc a) f = ne-eqb (suc a % 2) 0 (λ e. f (rw e))
 
 -- ---- a cell's step
 

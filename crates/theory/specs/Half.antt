@@ -4,6 +4,7 @@ use mathlib.Core.Logic.{_↔_, _⊎_, inl, inr}
 use mathlib.Core.Bool.{Bool, true, false, not, cond}
 use Prim.Native.Nat.{ℕ, zero, suc, _+_, _*_, _/_, _%_, _≤_, _<_}
 use native.Mathlib.Omega.{arith}
+use borrow.Author.Tests.{eqb-false}
 use lib.Dec.{T, eqb, eqb→eq, eqb-refl, leb→le, le→leb}
 use lib.IntN.{ℤ, pos, negsuc, negℤ, _+ℤ_, _-ℤ_, _*ℤ_, natAbs}
 use lib.Signed.{leZ, ltZ, _≤ℤ_, _<ℤ_, leZ-yes, ≤ℤ-refl}
@@ -30,6 +31,17 @@ floor-unique {d} {h} {g} f k = floor-one d h g (f .lower) (f .upper) (k .lower) 
 pub even-half : (d : ℤ) → T (even d) → pos 2 *ℤ half d ≡ d
 even-half (pos a) t = simp linear (omega (arith, eqb→eq (a % 2) 0 t))
 even-half (negsuc a) t = simp linear (omega (arith, eqb→eq (suc a % 2) 0 t))
+
+-- and where d is odd, 2·h is one less
+pub odd-half : (d : ℤ) → even d ≡ false → d -ℤ pos 1 ≡ pos 2 *ℤ half d
+odd-half d e = ap (λ (z : ℤ). z -ℤ pos 1) (one-more d e) ∙ one-less (pos 2 *ℤ half d)
+  where
+    one-more : (d : ℤ) → even d ≡ false → d ≡ pos 2 *ℤ half d +ℤ pos 1
+    one-more (pos a) e = simp linear (omega (arith, eqb-false (a % 2) 0 e))
+    one-more (negsuc a) e = simp linear (omega (arith, eqb-false (suc a % 2) 0 e))
+
+    one-less : (x : ℤ) → (x +ℤ pos 1) -ℤ pos 1 ≡ x
+    one-less x = rw (as-D x) (simp linear (omega arith))
 
 pub natAbs-neg : (z : ℤ) → natAbs (negℤ z) ≡ natAbs z
 natAbs-neg (pos zero) = refl

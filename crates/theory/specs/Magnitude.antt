@@ -1,16 +1,19 @@
 -- The size of an integer, `natAbs`, is a natural number, so that bounds on signed values are `omega`'s; and the quotient by 2.
 use mathlib.Core.Path.{_≡_, refl, sym, ap, _∙_, subst}
-use mathlib.Core.Logic.{_↔_, _≢_}
+use mathlib.Core.Logic.{_↔_}
+use mathlib.Core.Bool.{true, false}
 use Prim.Native.Nat.{ℕ, zero, suc, _+_, _*_, _/_, _%_, _^_, _≤_, _<_}
 use native.Mathlib.Omega.{arith}
 use native.Mathlib.Nat.{lt-of-le-of-lt}
-use lib.Dec.{T, leb→le, le→leb, ltb→lt}
+use borrow.Author.Tests.{eq-eqb, ne-eqb}
+use lib.Dec.{T, eqb→eq, leb→le, le→leb, ltb→lt}
 use lib.IntN.{ℤ, pos, negsuc, negℤ, _+ℤ_, _-ℤ_, _*ℤ_, *ℤ-comm, natAbs}
-use lib.Signed.{mag, _≤ℤ_, _<ℤ_, shrZ, quotZ}
-use mir.Syntax.{Width}
-use mir.Val.{SFits, hbits}
+use lib.Signed.{mag, _≤ℤ_, quotZ, remZ}
+use mir.Syntax.{Width, w32}
+use mir.Val.{SFits, hbits, ofZ}
 use Rattle.theory.specs.Bridge.{D, D-ind, add-D, up, down, as-D, linear}
-use Rattle.theory.specs.Half.{Floor, floor-half, floor-unique, half-even}
+use Rattle.scope.specs.Whole.{even, half}
+use Rattle.theory.specs.Half.{Floor, floor-half, floor-unique, half-even, even-of-double, odd-half}
 
 pub abs-le : (z : ℤ) (n : ℕ) → negℤ (pos n) ≤ℤ z → z ≤ℤ pos n → natAbs z ≤ n
 abs-le (pos a) n l h = leb→le a n (h .le)
@@ -51,16 +54,28 @@ pub abs-half : (d : ℤ) → natAbs (quotZ d (pos 2)) ≡ natAbs d / 2
 abs-half (pos a) = refl
 abs-half (negsuc a) = abs-neg (pos (suc a / 2))
 
-pub half-nonneg : (d : ℤ) → pos 0 ≤ℤ d → shrZ d 2 ≡ quotZ d (pos 2)
-half-nonneg (pos a) h = refl
-half-nonneg (negsuc a) h = absurd (h .le)
+-- the quotient by 2 of an even number is its half, and so is that of the even number below an odd one
+pub quot-even : (d : ℤ) → T (even d) → quotZ d (pos 2) ≡ half d
+quot-even (pos a) t = refl
+quot-even (negsuc a) t = simp linear (omega (arith, eqb→eq (suc a % 2) 0 t))
 
-pub half-exact : (d : ℤ) → quotZ d (pos 2) *ℤ pos 2 ≡ d → shrZ d 2 ≡ quotZ d (pos 2)
-half-exact d e = half-even d (quotZ d (pos 2)) (*ℤ-comm (pos 2) (quotZ d (pos 2)) ∙ e)
+pub quot-odd : (d : ℤ) → even d ≡ false → quotZ (d -ℤ pos 1) (pos 2) ≡ half d
+quot-odd d e =
+    let twice : ℤ = pos 2 *ℤ half d in
+    ap (λ (z : ℤ). quotZ z (pos 2)) (odd-half d e) ∙ quot-even twice (even-of-double twice (half d) refl) ∙ half-even twice (half d) refl
 
-pub half-odd : (d : ℤ) → d <ℤ pos 0 → quotZ d (pos 2) *ℤ pos 2 ≢ d → shrZ d 2 ≡ quotZ d (pos 2) -ℤ pos 1
-half-odd (pos a) h f = let k : a < 0 = ltb→lt a 0 (h .lt) in absurd (omega arith)
-half-odd (negsuc a) h f = simp linear (omega (arith, simp linear at f))
+-- the bits of the remainder by 2 are zero exactly where the number is even
+pub rem-even : (d : ℤ) → ofZ w32 (remZ d (pos 2)) ≡ 0 → even d ≡ true
+rem-even (pos a) e = eq-eqb (a % 2) 0 e
+rem-even (negsuc a) e = eq-eqb (suc a % 2) 0 (negated (suc a % 2) (omega arith) e)
+  where
+    negated : (k : ℕ) → k < 2 → ofZ w32 (negℤ (pos k)) ≡ 0 → k ≡ 0
+    negated zero h e = refl
+    negated (suc k) h e = absurd (omega arith)
+
+pub rem-odd : (d : ℤ) → (ofZ w32 (remZ d (pos 2)) ≡ 0 → ⊥) → even d ≡ false
+rem-odd (pos a) f = ne-eqb (a % 2) 0 f
+rem-odd (negsuc a) f = ne-eqb (suc a % 2) 0 (λ e. f (rw e))
 
 pub abs-mul : (a b : ℤ) → natAbs (a *ℤ b) ≡ natAbs a * natAbs b
 abs-mul (pos a) (pos b) = refl

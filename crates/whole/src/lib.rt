@@ -16,13 +16,11 @@ pub fn floor_half(entry: i32, sum: i32) -> i32
     ensures { λ r. ⌜ r ≡ half (entry -ℤ sum) ⌝ }
 {
     let d = entry - sum;
-    let q = d / 2;
-    if d < 0 {
-        if q * 2 != d {
-            return q - 1;
-        }
+    // Corrected to the even number below, an odd difference divides without a remainder.
+    if d % 2 != 0 {
+        return (d - 1) / 2;
     }
-    q
+    d / 2
 }
 
 // The number of 32 bits, in two's complement.

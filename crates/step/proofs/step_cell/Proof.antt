@@ -12,10 +12,10 @@ use mir.Val.{SFits}
 use mir.ValLaws.{toZ-ofZ}
 use Rattle.scope.specs.Whole.{even, half}
 use Rattle.scope.specs.States.{deadCell}
-use Rattle.theory.specs.Magnitude.{abs-sub, abs-half, fits-abs}
+use Rattle.theory.specs.Magnitude.{abs-sub, abs-half, fits-abs, rem-even, rem-odd}
 use Rattle.step.specs.Cells.{kindOf, CellFits}
 use Rattle.step.specs.Laws.{dead-step}
-use Rattle.step.proofs.Signed.{dead-bits, live-bits, rem-even, rem-odd, kind-equation, kind-atMost, step-odd, step-even, step-atMost, live-fits}
+use Rattle.step.proofs.Signed.{dead-bits, live-bits, kind-equation, kind-atMost, step-odd, step-even, step-atMost, live-fits}
 use Rattle.step.proofs.step_cell.Statement.{statement}
 use Rattle.step.proofs.step_cell.Tie as tie
 use Rattle.step.proofs.step_cell.Reads as reads
