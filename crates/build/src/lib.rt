@@ -21,7 +21,7 @@ ghost use Rattle.scope.specs.Sizes.{mostStates};
 ghost use Rattle.scope.specs.Building.{builtQuestion, built};
 ghost use Rattle.theory.specs.Accepted.{WithinLimits};
 ghost use Rattle.step.specs.Cells.{stepCells, Stepping};
-ghost use Rattle.index.specs.Index.{Indexed, Finds};
+ghost use Rattle.index.specs.Index.{Key, Indexed, Finds};
 ghost use Rattle.explore.specs.Standing.{Task};
 ghost use Rattle.explore.specs.Outcome.{Ready};
 ghost use Rattle.build.specs.Tabling.{machineIn, Tabling};
@@ -51,9 +51,9 @@ fn next_state(
 ) -> u16
     requires { ⌜ Indexed (now keys) m (now head) (now next) count ⌝ }
     requires { ⌜ Stepping m (now sums) letter (now keys) (row * m) ⌝ }
-    requires { ⌜ m ≤ length (now key) ⌝ }
+    requires { ⌜ Key m (now key) ⌝ }
     ensures { λ r. ⌜ Finds (now (keys .entry)) m (stepCells (now (kinds .entry)) m (now (sums .entry)) letter (now (keys .entry)) (row * m)) count r ⌝ }
-    ensures { λ _. ⌜ m ≤ length (now (key .exit)) ⌝ }
+    ensures { λ _. ⌜ Key m (now (key .exit)) ⌝ }
 {
     step_row(kinds, m, sums, letter, keys, row * m, key);
     find(keys, m, key, head, next, count) as u16

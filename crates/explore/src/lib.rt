@@ -13,7 +13,7 @@ ghost use lib.ListN.{length, take};
 ghost use Rattle.scope.specs.Question.{nodeOf};
 ghost use Rattle.scope.specs.States.{formulaWorth};
 ghost use Rattle.step.specs.Cells.{worthCells};
-ghost use Rattle.index.specs.Index.{Indexed};
+ghost use Rattle.index.specs.Index.{Key, Indexed};
 ghost use Rattle.explore.specs.Machine.{cellMachine};
 ghost use Rattle.explore.specs.Areas.{pathCount, pathWith, RowRoom};
 ghost use Rattle.explore.specs.Outcome.{exploredBy, Ready, Numbered};
@@ -166,6 +166,7 @@ fn add_row(
     requires { ⌜ Indexed (now keys) m (now head) (now next) count ⌝ }
     requires { ⌜ RowRoom m deciding count (now key) (now keys) (now path) ⌝ }
     requires { ⌜ RowFits (now codes) (now next) count row letter ⌝ }
+    requires { ⌜ Key m (now key) ⌝ }
     ensures { λ r. ⌜ RowAdded (now (codes .entry)) (now (kinds .entry)) m deciding (now (key .entry)) count row letter (now (keys .entry)) (now (path .entry)) (now (keys .exit)) (now (path .exit)) (now (head .exit)) (now (next .exit)) r ⌝ }
 {
     add(keys, m, key, head, next, count);
@@ -194,9 +195,9 @@ fn try_letter(
     requires { ⌜ Task (now codes) m (now sums) letters ⌝ }
     requires { ⌜ Stands (cellMachine (now codes) (now kinds) m (now sums) letters (take m (now keys))) m rows deciding (now keys) (now path) count row letter ⌝ }
     requires { ⌜ Linked m rows (now keys) (now head) (now next) count ⌝ }
-    requires { ⌜ (row < count) × (m ≤ length (now key)) ⌝ }
+    requires { ⌜ (row < count) × Key m (now key) ⌝ }
     ensures { λ r. ⌜ Tried (cellMachine (now (codes .entry)) (now (kinds .entry)) m (now (sums .entry)) letters (take m (now (keys .entry)))) m rows deciding (now (keys .entry)) (now (path .entry)) count row letter (now (keys .exit)) (now (path .exit)) (now (head .exit)) (now (next .exit)) r ⌝ }
-    ensures { λ _. ⌜ m ≤ length (now (key .exit)) ⌝ }
+    ensures { λ _. ⌜ Key m (now (key .exit)) ⌝ }
 {
     step_row(kinds, m, sums, letter, keys, row * m, key);
     if find(keys, m, key, head, next, count) < count {

@@ -1,3 +1,2 @@
 -- Laws on plain values, for the proofs of this crate.
 mod Cells
-mod Buckets

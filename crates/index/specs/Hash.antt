@@ -1,24 +1,30 @@
 -- The bucket of a row's cells, of n buckets. Nothing depends on its quality but speed.
+use mathlib.Core.List.{List}
 use Prim.Native.Nat.{ℕ, _+_, _*_, _/_, _%_}
-use mathlib.Core.List.{List, [], _∷_}
+use lib.ListN.{getD}
 use lib.IntN.{ℤ, pos, _+ℤ_, natAbs}
 
 -- a cell as a number below 2 ^ 32
 unfoldable pub codeOf : ℤ → ℕ
 codeOf z = natAbs (z +ℤ pos 2147483648)
 
--- the halves of a product, added
+-- the code of cell i, and of 0 past the cells
+abbrev pub codeAt : List ℤ → ℕ → ℕ
+codeAt cells i = codeOf (getD cells i (pos 0))
+
+-- the sum of eight cells' codes, each by an odd number below 2 ^ 29 of its own
+abbrev pub summed : List ℤ → ℕ
+summed cells =
+    (codeAt cells 0 * 506952111 + codeAt cells 1 * 63613195 + codeAt cells 2 * 381195351 + codeAt cells 3 * 9835859)
+    + (codeAt cells 4 * 98882751 + codeAt cells 5 * 240854619 + codeAt cells 6 * 33150183 + codeAt cells 7 * 13737507)
+
+-- the halves of a number, added
 abbrev pub folded : ℕ → ℕ
 folded p = p % 4294967296 + p / 4294967296
 
--- the hash h of some cells, with one cell more
-unfoldable pub mixed : ℕ → ℤ → ℕ
-mixed h z = (h * 1812433253 + folded (codeOf z * 1013904223)) % 4294967296
-
-unfoldable pub hashFrom : ℕ → List ℤ → ℕ
-hashFrom h [] = h
-hashFrom h (z ∷ cells) = hashFrom (mixed h z) cells
+unfoldable pub hashOf : List ℤ → ℕ
+hashOf cells = folded (summed cells) % 4294967296
 
 -- the hash is below 2 ^ 32, and its highest bits count
 unfoldable pub bucketOf : ℕ → List ℤ → ℕ
-bucketOf n cells = hashFrom 0 cells * n / 4294967296
+bucketOf n cells = hashOf cells * n / 4294967296

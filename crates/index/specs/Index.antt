@@ -6,9 +6,14 @@ use mathlib.Core.List.{List}
 use Prim.Native.Nat.{ℕ, _+_, _*_, _%_, _≤_, _<_}
 use lib.ListN.{length, getD, take}
 use lib.Seq.{paste}
-use lib.IntN.{ℤ}
+use lib.IntN.{ℤ, pos}
 use Rattle.index.specs.Rows.{rowAt}
 use Rattle.index.specs.Hash.{bucketOf}
+
+-- a key: eight cells, of which those from m on are 0
+pub record Key (m : ℕ) (key : List ℤ) : Type 0 where
+  pub eight : length key ≡ 8
+  pub blank : (i : ℕ) → m ≤ i → getD key i (pos 0) ≡ pos 0
 
 -- the answer to whether P holds
 abbrev pub Says : Bool → Type 0 → Type 0

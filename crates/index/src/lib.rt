@@ -5,8 +5,8 @@ ghost use Prim.Native.Nat.{_+_, _*_, _≤_, _<_};
 ghost use lib.ListN.{length, getD, set, take, replicate};
 ghost use lib.Seq.{paste};
 ghost use Rattle.index.specs.Rows.{rowAt};
-ghost use Rattle.index.specs.Hash.{codeOf, mixed, bucketOf};
-ghost use Rattle.index.specs.Index.{Says, Indexed, Finds, Room, Sized, Added};
+ghost use Rattle.index.specs.Hash.{codeOf, hashOf, bucketOf};
+ghost use Rattle.index.specs.Index.{Key, Says, Indexed, Finds, Room, Sized, Added};
 
 // No row: the link of a bucket that has none, and of a bucket's oldest row.
 const NONE: u16 = 65_535;
@@ -18,41 +18,45 @@ fn code(x: i32) -> usize
     (x as i64 + 2_147_483_648) as usize
 }
 
-// The hash of some cells, with one cell more. A cell's product is folded, so that a dead cell changes more than the highest bit; the
-// products of all cells can be under way at once. Chains are as short as by chance or shorter for rows of small numbers and dead cells.
-fn mix(h: usize, x: i32) -> usize
-    requires { ⌜ h < 4294967296 ⌝ }
-    ensures { λ r. ⌜ (r ≡ mixed h x) × (r < 4294967296) ⌝ }
+// The hash of a key: the codes of its cells, each by an odd number of its own, are added up, and then the halves of the sum. The products are
+// all under way at once, and there is no test, since past a row's own cells a key has 0. Chains are as short as by chance or shorter for
+// rows of small numbers and dead cells.
+fn hash(key: &[i32; 8]) -> usize
+    requires { ⌜ length (now key) ≡ 8 ⌝ }
+    ensures { λ r. ⌜ (r ≡ hashOf (now (key .entry))) × (r < 4294967296) ⌝ }
 {
-    let p = code(x) * 1_013_904_223;
-    (h * 1_812_433_253 + (p % 4_294_967_296 + p / 4_294_967_296)) % 4_294_967_296
+    let low = code(key[0]) * 506_952_111
+        + code(key[1]) * 63_613_195
+        + code(key[2]) * 381_195_351
+        + code(key[3]) * 9_835_859;
+    let high = code(key[4]) * 98_882_751
+        + code(key[5]) * 240_854_619
+        + code(key[6]) * 33_150_183
+        + code(key[7]) * 13_737_507;
+    let sum = low + high;
+    (sum % 4_294_967_296 + sum / 4_294_967_296) % 4_294_967_296
 }
 
-// The bucket, of n, of a key's first m cells.
-fn bucket(key: &[i32; 8], m: usize, n: usize) -> usize
-    requires { ⌜ (m ≤ 8) × (m ≤ length (now key)) × (0 < n) × (n ≤ 65536) ⌝ }
-    ensures { λ r. ⌜ (r ≡ bucketOf n (take m (now (key .entry)))) × (r < n) ⌝ }
+// The bucket, of n, of a key.
+fn bucket(key: &[i32; 8], n: usize) -> usize
+    requires { ⌜ (length (now key) ≡ 8) × (0 < n) × (n ≤ 65536) ⌝ }
+    ensures { λ r. ⌜ (r ≡ bucketOf n (now (key .entry))) × (r < n) ⌝ }
 {
-    let mut h = 0;
-    let mut i = 0;
-    while i < m {
-        let x = key[i];
-        h = mix(h, x);
-        i += 1;
-    }
-    h * n / 4_294_967_296
+    hash(key) * n / 4_294_967_296
 }
 
-// Whether the row has the key's first m cells.
+// Whether the row has the key's first m cells. The loop's length is fixed, so that it is laid out flat.
 fn same_row(keys: &[i32], m: usize, row: usize, key: &[i32; 8]) -> bool
     requires { ⌜ (m ≤ 8) × (m ≤ length (now key)) × (row * m + m ≤ length (now keys)) ⌝ }
     ensures { λ r. ⌜ Says r (rowAt (now (keys .entry)) m row ≡ take m (now (key .entry))) ⌝ }
 {
     let base = row * m;
     let mut i = 0;
-    while i < m {
-        if keys[base + i] != key[i] {
-            return false;
+    while i < 8 {
+        if i < m {
+            if keys[base + i] != key[i] {
+                return false;
+            }
         }
         i += 1;
     }
@@ -69,10 +73,10 @@ pub fn find(
     count: usize,
 ) -> usize
     requires { ⌜ Indexed (now keys) m (now head) (now next) count ⌝ }
-    requires { ⌜ m ≤ length (now key) ⌝ }
+    requires { ⌜ Key m (now key) ⌝ }
     ensures { λ r. ⌜ Finds (now (keys .entry)) m (now (key .entry)) count r ⌝ }
 {
-    let b = bucket(key, m, head.len());
+    let b = bucket(key, head.len());
     let mut link = head[b];
     while link != NONE {
         let row = link as usize;
@@ -101,7 +105,7 @@ pub fn store_row(keys: &mut [i32], m: usize, row: usize, key: &[i32; 8])
 // The row's cells as a key, with 0 past them.
 fn load_row(keys: &[i32], m: usize, row: usize) -> [i32; 8]
     requires { ⌜ (m ≤ 8) × (row * m + m ≤ length (now keys)) ⌝ }
-    ensures { λ r. ⌜ (take m r ≡ rowAt (now (keys .entry)) m row) × (length r ≡ 8) ⌝ }
+    ensures { λ r. ⌜ (take m r ≡ rowAt (now (keys .entry)) m row) × Key m r ⌝ }
 {
     let base = row * m;
     let mut key = [0i32; 8];
@@ -134,10 +138,10 @@ pub fn insert(
 )
     requires { ⌜ Indexed (now keys) m (now head) (now next) count ⌝ }
     requires { ⌜ Room (now keys) m (now next) count ⌝ }
-    requires { ⌜ take m (now key) ≡ rowAt (now keys) m count ⌝ }
+    requires { ⌜ Key m (now key) × (take m (now key) ≡ rowAt (now keys) m count) ⌝ }
     ensures { λ _. ⌜ Indexed (now (keys .entry)) m (now (head .exit)) (now (next .exit)) (count + 1) ⌝ }
 {
-    let b = bucket(key, m, head.len());
+    let b = bucket(key, head.len());
     link(head, next, b, count);
 }
 
@@ -152,7 +156,7 @@ pub fn add(
 )
     requires { ⌜ Indexed (now keys) m (now head) (now next) count ⌝ }
     requires { ⌜ Room (now keys) m (now next) count ⌝ }
-    requires { ⌜ m ≤ length (now key) ⌝ }
+    requires { ⌜ Key m (now key) ⌝ }
     ensures { λ _. ⌜ Added (now (keys .entry)) m (now (key .entry)) (now (keys .exit)) (now (head .exit)) (now (next .exit)) count ⌝ }
 {
     store_row(keys, m, count, key);

@@ -1,17 +1,18 @@
 -- `build::write_row` meets its contract. The invariant: the mark and the next states of the letters passed are written, and the
--- row that is lent for a target has room for it. The measure is letters less `letter`. Assumes nothing.
+-- row that is lent for a target is a key. The measure is letters less `letter`. Assumes nothing.
 use mathlib.Core.Path.{sym, _∙_}
-use Prim.Native.Nat.{_-_, _≤_}
+use Prim.Native.Nat.{_-_}
 use native.Mathlib.Omega.{arith}
 use borrow.Author.Needs.{needs}
-use lib.ListN.{length}
+use Rattle.index.specs.Index.{Key}
+use Rattle.index.specs.Laws.{key-zeros}
 use Rattle.build.specs.Tabling.{row-room, steppable}
 use Rattle.build.specs.Row.{Begun, mark-written, next-written, row-written}
 use Rattle.build.proofs.write_row.Statement.{statement}
 use Rattle.build.proofs.write_row.Tie as tie
 
 abbrev Inv-loop : tie.InvT-loop
-Inv-loop part₀ codes kinds m sums letters keys head next count row key₀ letter₀ part key letter = Begun codes kinds m sums letters keys count row letter part × (m ≤ length key)
+Inv-loop part₀ codes kinds m sums letters keys head next count row key₀ letter₀ part key letter = Begun codes kinds m sums letters keys count row letter part × Key m key
 
 abbrev μ-loop : tie.MeasureT-loop
 μ-loop part₀ codes kinds m sums letters keys head next count row key₀ letter₀ part key letter = letters - letter
@@ -32,7 +33,7 @@ loop-holds c =
     let start = c .before .before .before .before .before in (
       mark-written (start .pre .0) (start .args .row) (start .pre .1 .1 .0) (start .args .part .now) (c .mark .result) (c .before .accepts .result)
           (start .pre .1 .1 .1) (c .mark .ensures) (c .before .accepts .ensures),
-      start .pre .0 .task .atoms,
+      key-zeros _,
     )
 
 next-state-requires : tie.Need-next-state-requires Inv-loop μ-loop

@@ -1,10 +1,11 @@
 -- `explore::explore` meets its contract. The invariant: exploring stands somewhere and has not stopped. The measure is how many letters of
 -- how many rows there are left at most. Assumes nothing.
 use mathlib.Core.Path.{_≡_, refl, _∙_}
-use Prim.Native.Nat.{_≤_}
 use native.Mathlib.Omega.{arith}
 use borrow.Author.Needs.{needs}
 use lib.ListN.{length, take}
+use Rattle.index.specs.Index.{Key}
+use Rattle.index.specs.Laws.{key-zeros}
 use Rattle.explore.specs.Machine.{cellMachine}
 use Rattle.explore.proofs.Trying.{Runs, letter-below, cell-runs}
 use Rattle.explore.proofs.Going.{Exploring, begins, stands, ends, goes-on, stops, start-stays, left, less-left}
@@ -13,7 +14,7 @@ use Rattle.explore.proofs.explore.Tie as tie
 
 abbrev Inv-loop : tie.InvT-loop
 Inv-loop codes kinds m sums letters keys₀ path₀ head₀ next₀ rows deciding count row letter key₀ s₀ keys path head next key s =
-    (length keys ≡ length keys₀) × (length path ≡ length path₀) × (length head ≡ length head₀) × (length next ≡ length next₀) × (m ≤ length key)
+    (length keys ≡ length keys₀) × (length path ≡ length path₀) × (length head ≡ length head₀) × (length next ≡ length next₀) × Key m key
     × Exploring (cellMachine codes kinds m sums letters (take m keys₀)) m rows deciding keys₀ path₀ count keys path head next s
 
 abbrev μ-loop : tie.MeasureT-loop
@@ -24,7 +25,7 @@ runs : (s : tie.Start Inv-loop μ-loop) → Runs (s .args .codes .now) (s .args 
 runs s = cell-runs (s .args .codes .now) (s .args .kinds .now) (s .args .m) (s .args .sums .now) (s .args .letters) (take (s .args .m) (s .args .keys .now))
 
 loop-holds : tie.Need-loop-holds Inv-loop μ-loop
-loop-holds c = let p = c .before .before .before .before .pre in (refl, refl, refl, refl, p .0 .atoms, rw (c .going .ensures) (begins (p .1 .0) (p .1 .1)))
+loop-holds c = let p = c .before .before .before .before .pre in (refl, refl, refl, refl, key-zeros _, rw (c .going .ensures) (begins (p .1 .0) (p .1 .1)))
 
 try-letter-requires : tie.Need-try-letter-requires Inv-loop μ-loop
 try-letter-requires c κs =

@@ -60,7 +60,7 @@ insert-requires c κs =
           link = omega (arith, start .pre .links, at-row .before .loop-test .taken, inv .links);
           cells = omega (arith, start .pre .cells);
         },
-        at-row .load-row .ensures .0,
+        (at-row .load-row .ensures .1, at-row .load-row .ensures .0),
       ),
     )
 
