@@ -30,7 +30,8 @@ fn step_cell(kind: u8, cell: i32, sum: i32) -> i32
     floor_half(cell, sum)
 }
 
-// Writes the target of the key row that starts at cell `at` at the front of a row that is lent: the cells past the target stay.
+// Writes the target of the key row that starts at cell `at` at the front of a row that is lent: the cells past the target stay. The loop's
+// length is fixed, so that it is laid out flat.
 pub fn step_row(
     kinds: &[u8; 8],
     m: usize,
@@ -46,8 +47,10 @@ pub fn step_row(
 {
     let base = Question::ATOMS * letter;
     let mut i = 0;
-    while i < m {
-        row[i] = step_cell(kinds[i], keys[at + i], sums[base + i]);
+    while i < Question::ATOMS {
+        if i < m {
+            row[i] = step_cell(kinds[i], keys[at + i], sums[base + i]);
+        }
         i += 1;
     }
 }
