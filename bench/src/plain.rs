@@ -1,5 +1,5 @@
-//! An unproved, fast solver with the algorithm of the proved one, to measure against: letter sums worked once, key rows in the lent area,
-//! a chained hash index over them, and targets worked in a local row. Safe Rust throughout.
+//! The calls once more, unproved and fast, to measure against. The solver has the algorithm of the proved one: letter sums worked once, key rows
+//! in the lent area, a chained hash index over them, and targets worked in a local row. Safe Rust throughout.
 
 #![forbid(unsafe_code)]
 
@@ -89,6 +89,159 @@ fn record(bytes: &[u8], place: usize, length: impl Fn(u16) -> Option<usize>) -> 
         Some(body) => Ok((kind, body)),
         None => refuse(1),
     }
+}
+
+// Writing
+
+pub fn write(question: &Question, buffer: &mut [u8]) -> Result<usize, Refusal> {
+    let n = question.n as usize;
+    if n < 1 || n > Question::VARIABLES {
+        return Err(Refusal { number: 4, place: 0 });
+    }
+    let (nodes, atoms) = checked_formula(question, n)?;
+    leftover(question, n, nodes, atoms)?;
+    let length = 9 + 4 * nodes + 4 * (n + 1) * atoms;
+    let Some(buffer) = buffer.get_mut(..length) else { return Err(Refusal { number: 8, place: 0 }) };
+    buffer[..5].copy_from_slice(&[1, 0, 1, 0, question.n]);
+    let mut at = 5;
+    let mut atom = 0;
+    for &code in &question.codes[..nodes] {
+        let kind: u8 = [0x10, 0x11, 0x20, 0x21, 0x22][code as usize - 1];
+        let is_atom = code <= AT_MOST;
+        buffer[at..at + 4].copy_from_slice(&[if is_atom { 4 * (n as u8 + 1) } else { 0 }, 0, kind, 0]);
+        at += 4;
+        if is_atom {
+            let coefficients = &question.coefficients[6 * atom..6 * atom + n];
+            for number in coefficients.iter().chain(&question.constants[atom..atom + 1]) {
+                buffer[at..at + 4].copy_from_slice(&number.to_le_bytes());
+                at += 4;
+            }
+            atom += 1;
+        }
+    }
+    buffer[at..].copy_from_slice(&[0, 0, 0xFF, 0]);
+    Ok(length)
+}
+
+/// The nodes and atoms of a held question's formula, if it is whole and within the limits.
+fn checked_formula(question: &Question, n: usize) -> Result<(usize, usize), Refusal> {
+    // As in reading.
+    let mut due = [0u8; Question::DEPTH + 2];
+    let mut depth = 1;
+    due[depth] = 1;
+    let mut node = 0;
+    let mut atoms = 0;
+    while depth > 0 {
+        let refuse = |number| Err(Refusal { number, place: node });
+        let Some(&code) = question.codes.get(node) else { return refuse(5) };
+        if code < EQUATION || code > OR {
+            return refuse(2);
+        }
+        let is_atom = code <= AT_MOST;
+        if (is_atom && atoms == Question::ATOMS) || depth > Question::DEPTH {
+            return refuse(5);
+        }
+        due[depth] -= 1;
+        if is_atom {
+            let beyond = |number: i32, limit: i32| number < -limit || number > limit;
+            let coefficients = &question.coefficients[6 * atoms..6 * atoms + n];
+            if coefficients.iter().any(|&a| beyond(a, Question::COEFFICIENT)) || beyond(question.constants[atoms], Question::CONSTANT) {
+                return refuse(4);
+            }
+            atoms += 1;
+            while depth > 0 && due[depth] == 0 {
+                depth -= 1;
+            }
+        } else {
+            depth += 1;
+            due[depth] = if code == NOT { 1 } else { 2 };
+        }
+        node += 1;
+    }
+    Ok((node, atoms))
+}
+
+/// Refuses an unused entry that is not zero.
+fn leftover(question: &Question, n: usize, nodes: usize, atoms: usize) -> Result<(), Refusal> {
+    if let Some(i) = question.codes[nodes..].iter().position(|&code| code != 0) {
+        return Err(Refusal { number: 6, place: nodes + i });
+    }
+    let mut left = 0;
+    for (i, row) in question.coefficients.chunks_exact(6).enumerate() {
+        for &a in &row[if i < atoms { n } else { 0 }..] {
+            left |= a;
+        }
+    }
+    for &k in &question.constants[atoms..] {
+        left |= k;
+    }
+    if left != 0 { Err(Refusal { number: 6, place: 64 }) } else { Ok(()) }
+}
+
+// Judging and running
+
+pub fn judge(bytes: &[u8], values: &[u64]) -> Result<bool, Refusal> {
+    let question = read(bytes)?;
+    let n = question.n as usize;
+    if values.len() != n || values.iter().any(|&value| value > Question::VALUE) {
+        return Err(Refusal { number: 9, place: 0 });
+    }
+    let mut truths = [false; 64];
+    let mut atom = 0;
+    for (node, &code) in question.codes.iter().enumerate() {
+        if code == EQUATION || code == AT_MOST {
+            // Six products of at most 2^12 and 2^40.
+            let coefficients = &question.coefficients[6 * atom..6 * atom + n];
+            let sum: i64 = coefficients.iter().zip(values).map(|(&a, &x)| a as i64 * x as i64).sum();
+            let constant = question.constants[atom] as i64;
+            truths[node] = if code == EQUATION { sum == constant } else { sum <= constant };
+            atom += 1;
+        }
+    }
+    // From the last node to the first, the parts of a connective are the newest two.
+    let mut parts = [false; 64];
+    let mut count = 0;
+    for (node, &code) in question.codes.iter().enumerate().rev() {
+        match code {
+            EQUATION | AT_MOST => {
+                parts[count] = truths[node];
+                count += 1;
+            }
+            NOT => parts[count - 1] = !parts[count - 1],
+            AND | OR => {
+                count -= 1;
+                let (left, right) = (parts[count], parts[count - 1]);
+                parts[count - 1] = if code == AND { left & right } else { left | right };
+            }
+            _ => {}
+        }
+    }
+    Ok(parts[0])
+}
+
+pub fn run(n: usize, cells: &[u16], word: &[u8]) -> Result<bool, Refusal> {
+    let refuse = |number| Err(Refusal { number, place: 0 });
+    if n < 1 || n > Question::VARIABLES {
+        return refuse(4);
+    }
+    let letters = 1usize << n;
+    let width = 1 + letters;
+    let rows = cells.len() / width;
+    if rows == 0 || rows * width != cells.len() || rows > Question::STATES {
+        return refuse(11);
+    }
+    if !cells.chunks_exact(width).all(|row| row[0] <= 1 && row[1..].iter().all(|&next| (next as usize) < rows)) {
+        return refuse(11);
+    }
+    let mut state = 0;
+    for &letter in word {
+        let letter = letter as usize;
+        if letter >= letters {
+            return refuse(10);
+        }
+        state = cells[state * width + 1 + letter] as usize;
+    }
+    Ok(cells[state * width] == 1)
 }
 
 // Steps and acceptance
@@ -343,7 +496,7 @@ fn walk_back(path: &[u16], w: usize, word: &mut [u8]) -> Decision {
         letters += 1;
     }
     if letters > word.len() {
-        return Decision::WordShort { states: w + 1 };
+        return Decision::WordShort { states: w + 1, letters };
     }
     s = w;
     for i in (0..letters).rev() {

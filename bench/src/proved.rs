@@ -1,94 +1,69 @@
-//! The proved calls, linked from the C archive of crate `pelohuaki_c`, with the inputs and answers of those in `plain`. Built only with
-//! `--features proved`, the archive's folder being named by the environment variable PELOHUAKI_ARCHIVE.
+//! The proved calls, by the crate in ../rust, with the inputs and answers of those in `reading`. Built only with `--features proved`.
 
-use crate::reading::{Building, Decision, Refusal};
+#![forbid(unsafe_code)]
 
-// A slice is lent as a pointer and a length.
-extern "C" {
-    fn pelohuaki_decide(
-        bytes: *const u8,
-        bytes_len: usize,
-        keys: *mut i32,
-        keys_len: usize,
-        path: *mut u16,
-        path_len: usize,
-        word: *mut u8,
-        word_len: usize,
-        told: *mut u64,
-        told_len: usize,
-    ) -> u64;
+use crate::reading::{Building, Decision, Question, Record, Refusal};
 
-    fn pelohuaki_build(
-        bytes: *const u8,
-        bytes_len: usize,
-        keys: *mut i32,
-        keys_len: usize,
-        table: *mut u16,
-        table_len: usize,
-        told: *mut u64,
-        told_len: usize,
-    ) -> u64;
+fn refusal(refusal: pelohuaki::Refusal) -> Refusal {
+    Refusal { number: refusal.number(), place: refusal.place }
 }
 
-/// The call's refusal number, 0 where nothing is refused. `told` may have any length: of its first four cells (place, verdict, states,
-/// letters) those that are lent are written.
-pub fn decide_told(bytes: &[u8], keys: &mut [i32], path: &mut [u16], word: &mut [u8], told: &mut [u64]) -> u64 {
-    // Safety: each pointer is good for its length, and the exclusive ones overlap nothing.
-    unsafe {
-        pelohuaki_decide(
-            bytes.as_ptr(),
-            bytes.len(),
-            keys.as_mut_ptr(),
-            keys.len(),
-            path.as_mut_ptr(),
-            path.len(),
-            word.as_mut_ptr(),
-            word.len(),
-            told.as_mut_ptr(),
-            told.len(),
-        )
-    }
+fn held(question: pelohuaki::Question) -> Question {
+    let mut coefficients = [0; 48];
+    coefficients.copy_from_slice(question.coefficients.as_flattened());
+    Question { n: question.n, codes: question.codes, coefficients, constants: question.constants }
 }
 
-/// As `decide_told`, of building.
-pub fn build_told(bytes: &[u8], keys: &mut [i32], table: &mut [u16], told: &mut [u64]) -> u64 {
-    // Safety: as above.
-    unsafe {
-        pelohuaki_build(
-            bytes.as_ptr(),
-            bytes.len(),
-            keys.as_mut_ptr(),
-            keys.len(),
-            table.as_mut_ptr(),
-            table.len(),
-            told.as_mut_ptr(),
-            told.len(),
-        )
-    }
+/// A question as the crate holds it.
+pub fn handed(question: &Question) -> pelohuaki::Question {
+    let mut handed = pelohuaki::Question::empty();
+    handed.n = question.n;
+    handed.codes = question.codes;
+    handed.coefficients.as_flattened_mut().copy_from_slice(&question.coefficients);
+    handed.constants = question.constants;
+    handed
+}
+
+/// The record at the place, which is moved past it.
+pub fn take_record<'b>(place: &mut pelohuaki::Place<'b>) -> Result<Record<'b>, Refusal> {
+    let record = place.take_record().map_err(refusal)?;
+    Ok(Record { kind: record.kind, body: record.body, next: record.next })
+}
+
+pub fn read(bytes: &[u8]) -> Result<Question, Refusal> {
+    pelohuaki::read(bytes).map(held).map_err(refusal)
+}
+
+pub fn write(question: &Question, buffer: &mut [u8]) -> Result<usize, Refusal> {
+    pelohuaki::write(&handed(question), buffer).map_err(refusal)
+}
+
+pub fn judge(bytes: &[u8], values: &[u64]) -> Result<bool, Refusal> {
+    pelohuaki::judge(bytes, values).map_err(refusal)
 }
 
 pub fn decide(bytes: &[u8], keys: &mut [i32], path: &mut [u16], word: &mut [u8]) -> Decision {
-    let mut told = [u64::MAX; 4];
-    let number = decide_told(bytes, keys, path, word, &mut told);
-    let [place, verdict, states, letters] = told.map(|cell| cell as usize);
-    match (number, verdict, place, letters) {
-        (0, 1, 0, _) => Decision::Found { states, letters },
-        (0, 2, 0, 0) => Decision::Never { states },
-        (7, 0, 0, 0) => Decision::NoRoom { states },
-        (8, 0, 0, 1..) => Decision::WordShort { states },
-        (1..=6, 0, _, 0) if states == 0 => Decision::Refused(Refusal { number: number as u8, place }),
-        _ => panic!("decide answered {number} {told:?}"),
+    match pelohuaki::decide(bytes, keys, path, word) {
+        Ok(pelohuaki::Decision::Found { states, letters }) => Decision::Found { states, letters },
+        Ok(pelohuaki::Decision::Never { states }) => Decision::Never { states },
+        Ok(pelohuaki::Decision::NoRoom { states }) => Decision::NoRoom { states },
+        Ok(pelohuaki::Decision::Short { states, letters }) => Decision::WordShort { states, letters },
+        Err(refused) => Decision::Refused(refusal(refused)),
     }
 }
 
 pub fn build(bytes: &[u8], keys: &mut [i32], table: &mut [u16]) -> Building {
-    let mut told = [u64::MAX; 4];
-    let number = build_told(bytes, keys, table, &mut told);
-    let [place, verdict, states, letters] = told.map(|cell| cell as usize);
-    match (number, verdict, place, letters) {
-        (0, 3, 0, 0) => Building::Built { states },
-        (7, 0, 0, 0) => Building::NoRoom { states },
-        (1..=6, 0, _, 0) if states == 0 => Building::Refused(Refusal { number: number as u8, place }),
-        _ => panic!("build answered {number} {told:?}"),
+    match pelohuaki::build(bytes, keys, table) {
+        Ok(pelohuaki::Building::Built { states }) => Building::Built { states },
+        Ok(pelohuaki::Building::NoRoom { states }) => Building::NoRoom { states },
+        Err(refused) => Building::Refused(refusal(refused)),
     }
+}
+
+pub fn run(n: usize, cells: &[u16], word: &[u8]) -> Result<bool, Refusal> {
+    pelohuaki::run(n, cells, word).map_err(refusal)
+}
+
+pub fn spell(n: usize, variable: usize, word: &[u8]) -> Result<u64, Refusal> {
+    pelohuaki::spell(n, variable, word).map_err(refusal)
 }

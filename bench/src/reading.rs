@@ -67,8 +67,8 @@ pub enum Decision {
     Never { states: usize },
     /// Refusal 7.
     NoRoom { states: usize },
-    /// Refusal 8.
-    WordShort { states: usize },
+    /// Refusal 8, with the letters that the word has.
+    WordShort { states: usize, letters: usize },
     /// Refusals 1 to 6, from reading the question.
     Refused(Refusal),
 }
@@ -104,9 +104,9 @@ fn four_bytes(bytes: &[u8], place: usize) -> i32 {
     i32::from_le_bytes([bytes[place], bytes[place + 1], bytes[place + 2], bytes[place + 3]])
 }
 
-/// The bare step, which knows no formula.
+/// The bare step, which knows no formula. At a place past the end no bytes are left.
 pub fn record(bytes: &[u8], place: usize) -> Result<Record<'_>, Refusal> {
-    let left = bytes.len() - place;
+    let left = bytes.len().saturating_sub(place);
     if left < 4 {
         return refuse(1, place);
     }
@@ -516,7 +516,7 @@ pub fn decide(bytes: &[u8], keys: &[i32], path: &[u16], word: &[u8]) -> Decided 
         states.truncate(w + 1);
         let first = &states[w].word;
         if first.len() > word.len() {
-            Decision::WordShort { states: w + 1 }
+            Decision::WordShort { states: w + 1, letters: first.len() }
         } else {
             word[..first.len()].copy_from_slice(first);
             Decision::Found { states: w + 1, letters: first.len() }
@@ -571,8 +571,8 @@ pub fn build(bytes: &[u8], keys: &[i32], table: &[u16]) -> Built {
 // Running and spelling
 
 /// Whether the table accepts the word.
-pub fn run(n: u8, cells: &[u16], word: &[u8]) -> Result<bool, Refusal> {
-    if n < 1 || n as usize > Question::VARIABLES {
+pub fn run(n: usize, cells: &[u16], word: &[u8]) -> Result<bool, Refusal> {
+    if n < 1 || n > Question::VARIABLES {
         return refuse(4, 0);
     }
     let letters = 1usize << n;
@@ -595,8 +595,8 @@ pub fn run(n: u8, cells: &[u16], word: &[u8]) -> Result<bool, Refusal> {
     Ok(cells[state * (1 + letters)] == 1)
 }
 
-pub fn spell(n: u8, variable: u8, word: &[u8]) -> Result<u64, Refusal> {
-    if n < 1 || n as usize > Question::VARIABLES || variable < 1 || variable > n {
+pub fn spell(n: usize, variable: usize, word: &[u8]) -> Result<u64, Refusal> {
+    if n < 1 || n > Question::VARIABLES || variable < 1 || variable > n {
         return refuse(4, 0);
     }
     if word.iter().any(|&letter| letter as usize >= 1 << n) {
@@ -622,7 +622,7 @@ pub fn ask(input: &[u8]) -> String {
         Decision::NoRoom { states } => format!("verdict no-room\nstates {states}\n"),
         Decision::Found { states, letters } => {
             let word = &decided.word[..letters];
-            let n = read(bytes).unwrap().n;
+            let n = read(bytes).unwrap().n as usize;
             let values = if letters > 64 {
                 "long".to_string()
             } else {

@@ -2,45 +2,9 @@
 //! reaches every answer that document 01 names.
 
 use pelohuaki_bench::generate::*;
+use pelohuaki_bench::met::{building_name, decision_name, name, Met};
 use pelohuaki_bench::reading::*;
 use pelohuaki_bench::{plain, reading};
-use std::collections::BTreeMap;
-
-/// How often each answer was met.
-#[derive(Default)]
-struct Met(BTreeMap<String, usize>);
-
-impl Met {
-    fn meet(&mut self, answer: impl Into<String>) {
-        *self.0.entry(answer.into()).or_default() += 1;
-    }
-
-    /// Each of these was met so many times or more.
-    fn at_least(&self, times: usize, answers: &[&str]) {
-        println!("{:?}", self.0);
-        for &answer in answers {
-            assert!(self.0.get(answer).copied().unwrap_or(0) >= times, "{answer}: {:?}", self.0);
-        }
-    }
-}
-
-fn decision_name(answer: Decision) -> String {
-    match answer {
-        Decision::Found { .. } => "found".into(),
-        Decision::Never { .. } => "never".into(),
-        Decision::NoRoom { .. } => "7".into(),
-        Decision::WordShort { .. } => "8".into(),
-        Decision::Refused(refusal) => refusal.number.to_string(),
-    }
-}
-
-fn building_name(answer: Building) -> String {
-    match answer {
-        Building::Built { .. } => "built".into(),
-        Building::NoRoom { .. } => "7".into(),
-        Building::Refused(refusal) => refusal.number.to_string(),
-    }
-}
 
 /// The reachable states, or `most` where there are more.
 fn reachable(bytes: &[u8], most: usize) -> usize {
@@ -169,6 +133,9 @@ fn write_answers() {
         let buffer = cells8(&mut random, room);
         let written = reading::write(&question, &buffer);
         assert_eq!(written.buffer.len(), buffer.len());
+        let mut plainly = buffer.clone();
+        assert_eq!(plain::write(&question, &mut plainly), written.answer, "{question:?}");
+        assert_eq!(plainly, written.buffer);
         match written.answer {
             Ok(length) => {
                 assert_eq!(reading::read(&written.buffer[..length]), Ok(question));
@@ -195,11 +162,9 @@ fn judge_answers() {
         let bytes = if random.one_in(5) { damaged_bytes(&mut random) } else { question_bytes(&mut random) };
         let n = bytes.get(4).copied().unwrap_or(1).min(6);
         let values = values(&mut random, n);
-        met.meet(match judge(&bytes, &values) {
-            Ok(true) => "yes".into(),
-            Ok(false) => "no".into(),
-            Err(refusal) => refusal.number.to_string(),
-        });
+        let judged = judge(&bytes, &values);
+        assert_eq!(plain::judge(&bytes, &values), judged, "{bytes:x?} {values:?}");
+        met.meet(name(judged, |yes| if yes { "yes" } else { "no" }));
     }
     met.at_least(100, &["yes", "no", "1", "2", "3", "4", "5", "6", "9"]);
 }
@@ -216,7 +181,7 @@ fn decide_alike() {
         let whole = reading::decide(&bytes, &vec![0; most * m], &vec![0; most * 2], &[0; 256]);
         let (states, letters) = match whole.answer {
             Decision::Found { states, letters } => (states, letters),
-            Decision::Never { states } | Decision::NoRoom { states } | Decision::WordShort { states } => (states, 3),
+            Decision::Never { states } | Decision::NoRoom { states } | Decision::WordShort { states, .. } => (states, 3),
             Decision::Refused(_) => (3, 3),
         };
         for _ in 0..2 {
@@ -328,7 +293,7 @@ fn small_values() {
                 }
             }
             Decision::Found { letters, .. } => {
-                let values = |word: &[u8]| -> Vec<u64> { (1..=n).map(|j| spell(n as u8, j as u8, word).unwrap()).collect() };
+                let values = |word: &[u8]| -> Vec<u64> { (1..=n).map(|j| spell(n, j, word).unwrap()).collect() };
                 assert_eq!(judge(&bytes, &values(&word[..letters])), Ok(true), "{bytes:x?}");
                 // Every earlier word: the codes of a length count up in the words' order.
                 let shortest = if n * letters > 14 { (14 / n).min(letters - 1) } else { letters };
@@ -366,8 +331,8 @@ fn tables_judge() {
         for _ in 0..40 {
             let length = random.pick(&[0, 1, 2, 3, 4, 10, 40]);
             let word: Vec<u8> = (0..length).map(|_| random.below(1 << n) as u8).collect();
-            let values: Vec<u64> = (1..=n).map(|j| spell(n as u8, j as u8, &word).unwrap()).collect();
-            let accepted = run(n as u8, cells, &word);
+            let values: Vec<u64> = (1..=n).map(|j| spell(n, j, &word).unwrap()).collect();
+            let accepted = run(n, cells, &word);
             assert_eq!(accepted, judge(&bytes, &values), "{bytes:x?} {word:?}");
             met.meet(if accepted == Ok(true) { "yes" } else { "no" });
         }
@@ -382,13 +347,11 @@ fn run_answers() {
     for _ in 0..50_000 {
         let n = 1 + random.below(6) as u8;
         let cells = if random.one_in(3) { damaged_table(&mut random, n) } else { table(&mut random, n) };
-        let handed = if random.one_in(10) { random.pick(&[0, 1, 2, 6, 7, 8, 255]) } else { n };
+        let handed = if random.one_in(10) { random.pick(&[0, 1, 2, 6, 7, 8, 255]) } else { n as usize };
         let word = word(&mut random, n);
-        met.meet(match run(handed, &cells, &word) {
-            Ok(true) => "yes".into(),
-            Ok(false) => "no".into(),
-            Err(refusal) => refusal.number.to_string(),
-        });
+        let accepted = run(handed, &cells, &word);
+        assert_eq!(plain::run(handed, &cells, &word), accepted, "{handed} {cells:?} {word:?}");
+        met.meet(name(accepted, |yes| if yes { "yes" } else { "no" }));
     }
     met.at_least(500, &["yes", "no", "4", "10", "11"]);
     assert_eq!(run(1, &tall_table(65_535), &[0]), Ok(false));
@@ -403,10 +366,7 @@ fn spell_answers() {
         let n = if random.one_in(8) { random.pick(&[0, 7, 8, 255]) } else { 1 + random.below(6) as u8 };
         let variable = if random.one_in(8) { random.pick(&[0, 7, 255, n.wrapping_add(1)]) } else { 1 + random.below(n.clamp(1, 6) as usize) as u8 };
         let word = word(&mut random, n);
-        met.meet(match spell(n, variable, &word) {
-            Ok(_) => "value".into(),
-            Err(refusal) => refusal.number.to_string(),
-        });
+        met.meet(name(spell(n as usize, variable as usize, &word), |_| "value"));
     }
     met.at_least(500, &["value", "4", "9", "10"]);
     assert_eq!(spell(1, 1, &[1; 64]), Ok(u64::MAX));

@@ -77,7 +77,11 @@ fn base() {
                     "no-room" => Decision::NoRoom { states },
                     "refused" => {
                         assert_eq!(fields[5], "8", "{at}");
-                        Decision::WordShort { states }
+                        // The line says no letters: they are those of the word, given room for it.
+                        let Decision::Found { letters, .. } = reading::decide(&question, &keys, &path, &[0; 1_024]).answer else {
+                            panic!("{at}")
+                        };
+                        Decision::WordShort { states, letters }
                     }
                     other => panic!("{other}"),
                 };
@@ -113,7 +117,7 @@ fn base() {
                 assert_eq!(Built { answer, keys, table }, built, "{at}");
             }
             "spell" => {
-                let spelled = match reading::spell(number(fields[1]) as u8, number(fields[2]) as u8, &list::<u8>(fields[3])) {
+                let spelled = match reading::spell(number(fields[1]), number(fields[2]), &list::<u8>(fields[3])) {
                     Ok(value) => format!("value {value}"),
                     Err(refusal) => format!("refused {}", refusal.number),
                 };
