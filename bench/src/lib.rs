@@ -1,10 +1,12 @@
 //! Tests and measurements beside the proved solver, in plain Rust: a reading of document 01 to compare with, an unproved fast
 //! solver to measure against, and a generator of inputs. Nothing here is proved, and the proved code uses none of it.
 
+pub mod clock;
 pub mod generate;
 pub mod met;
 pub mod plain;
 #[cfg(feature = "proved")]
 pub mod proved;
 pub mod reading;
+pub mod smt;
 pub mod vectors;

@@ -242,3 +242,13 @@ fn numbering_by_every_word() {
         }
     }
 }
+
+#[test]
+fn as_smt_lib() {
+    let five = read(&question(2, &[NOT, EQUATION], &[&[5, -1, -3]])).unwrap();
+    assert_eq!(
+        pelohuaki_bench::smt::batch(&[five]),
+        "(push 1)(declare-fun x1 () Int)(assert (>= x1 0))(declare-fun x2 () Int)(assert (>= x2 0))\
+         (assert (not (= (+ 0 (* 5 x1) (* (- 1) x2)) (- 3))))(check-sat)(pop 1)\n"
+    );
+}
