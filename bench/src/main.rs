@@ -178,6 +178,11 @@ fn transitions(questions: &[Vec<u8>]) -> usize {
     questions.iter().map(|question| plain::decide_counted(question, &mut keys, &mut path, &mut word).1).sum()
 }
 
+/// A number with its thousands apart.
+fn grouped(number: usize) -> String {
+    if number < 1_000 { number.to_string() } else { format!("{},{:03}", grouped(number / 1_000), number % 1_000) }
+}
+
 /// A table built whole, for running.
 fn built(question: &[u8], states: usize) -> Vec<u16> {
     let held = reading::read(question).expect("a question");
@@ -203,7 +208,7 @@ fn long_words(rounds: usize, five: &[u8], largest: &[u8]) {
         let cells = built(question, states);
         let mut random = Random::new(2);
         let word: Vec<u8> = (0..1_000_000).map(|_| random.below(1 << n) as u8).collect();
-        let work = format!("1,000,000 letters run, {} cells", cells.len());
+        let work = format!("{} letters run, {} rows of {} cells", grouped(word.len()), grouped(states), 1 + (1 << n));
         line(rounds, &work, "letter", word.len(), sides!(running(n, &cells, &word)));
     }
 }
@@ -260,8 +265,9 @@ fn main() {
     for (a, b) in [(24, 39), (99, 99), (254, 256)] {
         let states = (a as usize + 1) * (b as usize + 1);
         let question = vec![never_accepting(a, b)];
-        line(rounds, &format!("one family, {states} states, decided"), "transition", states * 4, sides!(deciding(&question)));
-        line(rounds, &format!("one family, {states} states, built"), "transition", states * 4, sides!(building(&question[0], states)));
+        let family = format!("a x <= 0 and b y <= 0 and 0x <= -1, {} states", grouped(states));
+        line(rounds, &format!("{family}, decided"), "transition", states * 4, sides!(deciding(&question)));
+        line(rounds, &format!("{family}, built"), "transition", states * 4, sides!(building(&question[0], states)));
     }
     small_calls(rounds, &blocks);
     long_words(rounds, &five, &largest);

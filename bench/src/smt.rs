@@ -16,10 +16,14 @@ fn term(meaning: &Meaning, formula: &Formula) -> String {
     match formula {
         Formula::Atom(i) => {
             let atom = &meaning.atoms[*i];
-            let products = atom.coefficients.iter().enumerate().map(|(j, &a)| format!(" (* {} x{})", number(a), j + 1));
-            let sign = if atom.equation { "=" } else { "<=" };
-            // A sum has two parts or more.
-            format!("({sign} (+ 0{}) {})", products.collect::<String>(), number(atom.constant))
+            let used = atom.coefficients.iter().enumerate().filter(|(_, &a)| a != 0);
+            let products: Vec<String> = used.map(|(j, &a)| format!("(* {} x{})", number(a), j + 1)).collect();
+            let sum = match &products[..] {
+                [] => "0".into(),
+                [product] => product.clone(),
+                products => format!("(+ {})", products.join(" ")),
+            };
+            format!("({} {sum} {})", if atom.equation { "=" } else { "<=" }, number(atom.constant))
         }
         Formula::Not(p) => format!("(not {})", term(meaning, p)),
         Formula::And(p, q) => format!("(and {} {})", term(meaning, p), term(meaning, q)),

@@ -245,10 +245,15 @@ fn numbering_by_every_word() {
 
 #[test]
 fn as_smt_lib() {
-    let five = read(&question(2, &[NOT, EQUATION], &[&[5, -1, -3]])).unwrap();
+    let text = |n, codes: &[u8], atoms: &[&[i32]]| pelohuaki_bench::smt::batch(&[read(&question(n, codes, atoms)).unwrap()]);
     assert_eq!(
-        pelohuaki_bench::smt::batch(&[five]),
+        text(2, &[NOT, EQUATION], &[&[5, -1, -3]]),
         "(push 1)(declare-fun x1 () Int)(assert (>= x1 0))(declare-fun x2 () Int)(assert (>= x2 0))\
-         (assert (not (= (+ 0 (* 5 x1) (* (- 1) x2)) (- 3))))(check-sat)(pop 1)\n"
+         (assert (not (= (+ (* 5 x1) (* (- 1) x2)) (- 3))))(check-sat)(pop 1)\n"
+    );
+    assert_eq!(
+        text(1, &[OR, AT_MOST, AND, EQUATION, AT_MOST], &[&[2, 7], &[0, 0], &[-4, -8]]),
+        "(push 1)(declare-fun x1 () Int)(assert (>= x1 0))\
+         (assert (or (<= (* 2 x1) 7) (and (= 0 0) (<= (* (- 4) x1) (- 8)))))(check-sat)(pop 1)\n"
     );
 }
