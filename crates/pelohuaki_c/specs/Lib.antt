@@ -1,2 +1,3 @@
 -- What the exported calls answer.
+pub mod Lent
 pub mod Told

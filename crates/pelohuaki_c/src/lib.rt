@@ -1,88 +1,76 @@
 // The calls as C and Rust link them: a number passes as itself, a slice as a pointer and a length. A call answers document 01's
 // refusal number, 0 where nothing is refused, and puts the rest of its answer into `told`, as many cells of it as are lent.
-use scope::BuildAnswer;
-use scope::DecideAnswer;
-ghost use mathlib.Core.Path.{_≡_};
-ghost use lib.ListN.{set};
-ghost use lib.Seq.{sets};
-ghost use Rattle.scope.specs.Refusals.{decideTold, buildTold};
+ghost use Rattle.scope.specs.Refusals.{recordTold, truthTold, spellTold};
+ghost use Rattle.scope.specs.Wire.{recordAt, readHeld};
+ghost use Rattle.scope.specs.Writing.{wrote};
+ghost use Rattle.scope.specs.Judging.{judged};
 ghost use Rattle.scope.specs.Deciding.{decided};
 ghost use Rattle.scope.specs.Building.{built};
-ghost use Rattle.pelohuaki_c.specs.Told.{four, decideCells, buildCells, Tells, DecidesInto, BuildsInto};
+ghost use Rattle.scope.specs.Running.{ran};
+ghost use Rattle.scope.specs.Words.{spelt};
+ghost use Rattle.pelohuaki_c.specs.Told.{Gives, ReadsInto, WritesInto, DecidesInto, BuildsInto};
+ghost use Rattle.pelohuaki_c.specs.Lent.{lentQuestion};
 
-fn put(told: &mut [u64], at: usize, value: u64)
-    ensures { λ _. ⌜ now (told .exit) ≡ set (now (told .entry)) at value ⌝ }
+mod lending;
+mod telling;
+
+use lending::put_parts;
+use lending::question_of;
+use telling::tell_built;
+use telling::tell_decided;
+use telling::tell_read;
+use telling::tell_record;
+use telling::tell_spelt;
+use telling::tell_truth;
+use telling::tell_written;
+
+#[no_mangle]
+pub extern "C" fn pelohuaki_record_at(bytes: &[u8], at: usize, told: &mut [u64]) -> u64
+    ensures { λ r. ⌜ Gives 4 (recordTold (recordAt (now (bytes .entry)) at)) (now (told .entry)) r (now (told .exit)) ⌝ }
 {
-    if at < told.len() {
-        told[at] = value;
-    }
+    let answer = wire::record_at(bytes, at);
+    tell_record(answer, told)
 }
 
-fn put_four(told: &mut [u64], place: u64, verdict: u64, states: u64, letters: u64)
-    ensures { λ _. ⌜ now (told .exit) ≡ sets (now (told .entry)) 0 (four place verdict states letters) ⌝ }
+#[no_mangle]
+pub extern "C" fn pelohuaki_read(
+    bytes: &[u8],
+    codes: &mut [u8],
+    coefficients: &mut [i32],
+    constants: &mut [i32],
+    told: &mut [u64],
+) -> u64
+    ensures { λ r. ⌜ ReadsInto (readHeld (now (bytes .entry))) (now (codes .entry)) (now (coefficients .entry)) (now (constants .entry)) (now (told .entry)) r (now (codes .exit)) (now (coefficients .exit)) (now (constants .exit)) (now (told .exit)) ⌝ }
 {
-    put(told, 0, place);
-    put(told, 1, verdict);
-    put(told, 2, states);
-    put(told, 3, letters);
+    let held = wire::read(bytes);
+    let answer = held.answer;
+    let question = held.question;
+    put_parts(answer, question, codes, coefficients, constants);
+    tell_read(answer, question.n, told)
 }
 
-fn wide(count: usize) -> u64
-    ensures { λ r. ⌜ r ≡ count ⌝ }
+#[no_mangle]
+pub extern "C" fn pelohuaki_write(
+    n: u8,
+    codes: &[u8],
+    coefficients: &[i32],
+    constants: &[i32],
+    bytes: &mut [u8],
+    told: &mut [u64],
+) -> u64
+    ensures { λ r. ⌜ WritesInto (wrote (lentQuestion n (now (codes .entry)) (now (coefficients .entry)) (now (constants .entry))) (now (bytes .entry))) (now (told .entry)) r (now (bytes .exit)) (now (told .exit)) ⌝ }
 {
-    count as u64
+    let question = question_of(n, codes, coefficients, constants);
+    let answer = wire::write(question, bytes);
+    tell_written(answer, told)
 }
 
-fn wider(number: u8) -> u64
-    ensures { λ r. ⌜ r ≡ number ⌝ }
+#[no_mangle]
+pub extern "C" fn pelohuaki_judge(bytes: &[u8], values: &[u64], told: &mut [u64]) -> u64
+    ensures { λ r. ⌜ Gives 1 (truthTold (judged (now (bytes .entry)) (now (values .entry)))) (now (told .entry)) r (now (told .exit)) ⌝ }
 {
-    number as u64
-}
-
-fn tell_decided(answer: DecideAnswer, told: &mut [u64]) -> u64
-    ensures { λ r. ⌜ Tells (decideTold answer .number) (decideCells answer) (now (told .entry)) r (now (told .exit)) ⌝ }
-{
-    match answer {
-        DecideAnswer::Found { states, letters } => {
-            put_four(told, 0, 1, wide(states), wide(letters));
-            0
-        }
-        DecideAnswer::Never { states } => {
-            put_four(told, 0, 2, wide(states), 0);
-            0
-        }
-        DecideAnswer::NoRoom { states } => {
-            put_four(told, 0, 0, wide(states), 0);
-            7
-        }
-        DecideAnswer::Short { states, letters } => {
-            put_four(told, 0, 0, wide(states), wide(letters));
-            8
-        }
-        DecideAnswer::Refused(refusal) => {
-            put_four(told, wide(refusal.place), 0, 0, 0);
-            wider(refusal.number)
-        }
-    }
-}
-
-fn tell_built(answer: BuildAnswer, told: &mut [u64]) -> u64
-    ensures { λ r. ⌜ Tells (buildTold answer .number) (buildCells answer) (now (told .entry)) r (now (told .exit)) ⌝ }
-{
-    match answer {
-        BuildAnswer::Built { states } => {
-            put_four(told, 0, 3, wide(states), 0);
-            0
-        }
-        BuildAnswer::NoRoom { states } => {
-            put_four(told, 0, 0, wide(states), 0);
-            7
-        }
-        BuildAnswer::Refused(refusal) => {
-            put_four(told, wide(refusal.place), 0, 0, 0);
-            wider(refusal.number)
-        }
-    }
+    let answer = judge::judge(bytes, values);
+    tell_truth(answer, told)
 }
 
 #[no_mangle]
@@ -110,4 +98,20 @@ pub extern "C" fn pelohuaki_build(
 {
     let answer = build::build(bytes, keys, table);
     tell_built(answer, told)
+}
+
+#[no_mangle]
+pub extern "C" fn pelohuaki_run(n: usize, cells: &[u16], word: &[u8], told: &mut [u64]) -> u64
+    ensures { λ r. ⌜ Gives 1 (truthTold (ran n (now (cells .entry)) (now (word .entry)))) (now (told .entry)) r (now (told .exit)) ⌝ }
+{
+    let answer = words::run(n, cells, word);
+    tell_truth(answer, told)
+}
+
+#[no_mangle]
+pub extern "C" fn pelohuaki_spell(n: usize, variable: usize, word: &[u8], told: &mut [u64]) -> u64
+    ensures { λ r. ⌜ Gives 1 (spellTold (spelt n variable (now (word .entry)))) (now (told .entry)) r (now (told .exit)) ⌝ }
+{
+    let answer = words::spell(n, variable, word);
+    tell_spelt(answer, told)
 }

@@ -1,7 +1,7 @@
--- `pelohuaki_c::put_four` meets its contract.
+-- `pelohuaki_c::telling::put_four` meets its contract.
 use borrow.Author.Needs.{needs}
-use Rattle.pelohuaki_c.proofs.put_four.Statement.{statement}
-use Rattle.pelohuaki_c.proofs.put_four.Tie as tie
+use Rattle.pelohuaki_c.proofs.telling.put_four.Statement.{statement}
+use Rattle.pelohuaki_c.proofs.telling.put_four.Tie as tie
 
 returns : tie.Need-returns
 returns c =

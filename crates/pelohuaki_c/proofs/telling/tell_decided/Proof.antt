@@ -1,8 +1,8 @@
--- `pelohuaki_c::tell_decided` meets its contract, case by case of the answer.
+-- `pelohuaki_c::telling::tell_decided` meets its contract, case by case of the answer.
 use mathlib.Core.Path.{refl}
 use borrow.Author.Needs.{needs}
-use Rattle.pelohuaki_c.proofs.tell_decided.Statement.{statement}
-use Rattle.pelohuaki_c.proofs.tell_decided.Tie as tie
+use Rattle.pelohuaki_c.proofs.telling.tell_decided.Statement.{statement}
+use Rattle.pelohuaki_c.proofs.telling.tell_decided.Tie as tie
 
 returns : tie.Need-returns
 returns c =
@@ -40,7 +40,7 @@ returns-5 : tie.Need-returns-5
 returns-5 c =
     rw (c .before .before .before .before .before .before .before .answer5 .given .1)
     (record {
-      number = c .wider .ensures;
+      number = c .wide-byte .ensures;
       told = rw (c .before .before .before .before .wide7 .ensures) at (c .before .before .before .put-four5 .ensures);
     })
 

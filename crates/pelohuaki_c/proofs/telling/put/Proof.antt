@@ -1,10 +1,10 @@
--- `pelohuaki_c::put` meets its contract: past the end nothing is set.
+-- `pelohuaki_c::telling::put` meets its contract: past the end nothing is set.
 use mathlib.Core.Path.{sym}
 use native.Mathlib.Omega.{arith}
 use lib.Seq.{set-out}
 use borrow.Author.Needs.{needs}
-use Rattle.pelohuaki_c.proofs.put.Statement.{statement}
-use Rattle.pelohuaki_c.proofs.put.Tie as tie
+use Rattle.pelohuaki_c.proofs.telling.put.Statement.{statement}
+use Rattle.pelohuaki_c.proofs.telling.put.Tie as tie
 
 returns-2 : tie.Need-returns-2
 returns-2 c = sym (set-out _ _ _ (omega arith))

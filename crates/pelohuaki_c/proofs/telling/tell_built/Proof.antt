@@ -1,8 +1,8 @@
--- `pelohuaki_c::tell_built` meets its contract, case by case of the answer.
+-- `pelohuaki_c::telling::tell_built` meets its contract, case by case of the answer.
 use mathlib.Core.Path.{refl}
 use borrow.Author.Needs.{needs}
-use Rattle.pelohuaki_c.proofs.tell_built.Statement.{statement}
-use Rattle.pelohuaki_c.proofs.tell_built.Tie as tie
+use Rattle.pelohuaki_c.proofs.telling.tell_built.Statement.{statement}
+use Rattle.pelohuaki_c.proofs.telling.tell_built.Tie as tie
 
 returns : tie.Need-returns
 returns c =
@@ -24,7 +24,7 @@ returns-3 : tie.Need-returns-3
 returns-3 c =
     rw (c .before .before .before .before .before .before .before .answer3 .given .1)
     (record {
-      number = c .wider .ensures;
+      number = c .wide-byte .ensures;
       told = rw (c .before .before .before .before .wide3 .ensures) at (c .before .before .before .put-four3 .ensures);
     })
 
