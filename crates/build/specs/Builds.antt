@@ -132,9 +132,6 @@ module _ (kinds : List ℕ) {codes : List ℕ} {m : ℕ} {sums : List ℤ} {lett
       let some : 0 < states = omega (arith, rooted .not-empty, there .size) in
       rw zero-mul at (state-is there 0 some) ∙ ap (λ (r : Row (List ℤ)). r .state) (rooted .start-row) ∙ cell-start codes kinds m sums letters (take m keys₀)
 
-  pub states-fit : states ≤ 65535
-  states-fit = omega (arith, few-states, ready .few-rows)
-
   pub table-fits : (width size : ℕ) → rows * width ≤ size → states * width ≤ size
   table-fits width size h = omega (arith, mul-le-mul-right width few-states)
 

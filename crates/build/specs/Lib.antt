@@ -4,4 +4,5 @@ pub mod Tabling
 pub mod Row
 pub mod Table
 pub mod Builds
+pub mod Filling
 pub mod Asked

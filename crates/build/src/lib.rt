@@ -1,9 +1,12 @@
 // Building a question's table: its states are numbered first, then every row of the table is written from the key rows.
-use explore::Explored;
+use explore::FEW;
+use explore::MANY;
+use explore::Stand;
 use explore::accepts;
-use explore::number_rows;
+use explore::least;
+use explore::resume;
+use index::NONE;
 use index::find;
-use index::rebuild;
 use index::store_row;
 use scope::BuildAnswer;
 use scope::Question;
@@ -22,19 +25,14 @@ ghost use Rattle.scope.specs.Building.{builtQuestion, built};
 ghost use Rattle.theory.specs.Accepted.{WithinLimits};
 ghost use Rattle.step.specs.Cells.{stepCells, Stepping};
 ghost use Rattle.index.specs.Index.{Key, Indexed, Finds};
-ghost use Rattle.explore.specs.Standing.{Task};
+ghost use Rattle.explore.specs.Standing.{Task, Linked, Stands};
 ghost use Rattle.explore.specs.Outcome.{Ready};
 ghost use Rattle.build.specs.Tabling.{machineIn, Tabling};
 ghost use Rattle.build.specs.Row.{rowOf};
 ghost use Rattle.build.specs.Table.{tableAfter};
 ghost use Rattle.build.specs.Builds.{Builds, filled};
+ghost use Rattle.build.specs.Filling.{Filling, FilledFrom, answerBy};
 ghost use Rattle.build.specs.Asked.{Lends};
-
-// The rows for which the small index has room, and its buckets.
-const FEW: usize = 256;
-
-// The same of the large index.
-const MANY: usize = 65_536;
 
 // The row that has the cells to which a letter leads from a row. They are worked in a row that is lent.
 fn next_state(
@@ -145,25 +143,48 @@ fn write_rows(
     }
 }
 
-// Writes the table through an index that is made anew.
-fn write_indexed(
-    table: &mut [u16],
+// Numbers the states from where it stands, with an index that has no row yet. If each state has a row then, it writes the table from the same
+// index.
+fn fill_from(
     codes: &[u8; 64],
     kinds: &[u8; 8],
     m: usize,
     sums: &[i32; 512],
     letters: usize,
-    keys: &[i32],
+    keys: &mut [i32],
+    path: &mut [u16],
+    table: &mut [u16],
     head: &mut [u16],
     next: &mut [u16],
+    rows: usize,
     count: usize,
-)
-    requires { ⌜ Tabling (now codes) (now kinds) m (now sums) letters (now keys) count ⌝ }
-    requires { ⌜ (count ≤ 65535) × (count * (1 + letters) ≤ length (now table)) ⌝ }
-    requires { ⌜ (0 < length (now head)) × (length (now head) ≤ 65536) × (count ≤ length (now next)) ⌝ }
-    ensures { λ _. ⌜ now (table .exit) ≡ tableAfter (now (codes .entry)) (now (kinds .entry)) m (now (sums .entry)) letters (now (keys .entry)) count (now (table .entry)) ⌝ }
+    row: usize,
+    letter: usize,
+) -> Stand
+    requires { ⌜ Filling (now codes) (now kinds) m (now sums) letters rows (now keys) (now path) (now table) ⌝ }
+    requires { ⌜ Stands (machineIn (now codes) (now kinds) m (now sums) letters (now keys)) m rows false (now keys) (now path) count row letter ⌝ }
+    requires { ⌜ Linked m rows (now keys) (now head) (now next) 0 ⌝ }
+    ensures { λ r. ⌜ FilledFrom (now (codes .entry)) (now (kinds .entry)) m (now (sums .entry)) letters rows count (now (keys .entry)) (now (path .entry)) (now (table .entry)) (now (keys .exit)) (now (path .exit)) (now (table .exit)) r ⌝ }
 {
-    rebuild(keys, m, head, next, count);
+    let s = resume(
+        codes,
+        kinds,
+        m,
+        sums,
+        letters,
+        keys,
+        path,
+        head,
+        next,
+        rows,
+        false,
+        count,
+        row,
+        letter,
+    );
+    if s.stopped {
+        return s;
+    }
     write_rows(
         table,
         codes,
@@ -174,92 +195,95 @@ fn write_indexed(
         keys,
         head,
         next,
-        count,
+        s.count,
     );
+    s
 }
 
-// A small index: a small question does not pay for clearing a large one.
-fn write_few(
-    table: &mut [u16],
+// From the start, with a small index.
+fn fill_few(
     codes: &[u8; 64],
     kinds: &[u8; 8],
     m: usize,
     sums: &[i32; 512],
     letters: usize,
-    keys: &[i32],
-    count: usize,
-)
-    requires { ⌜ Tabling (now codes) (now kinds) m (now sums) letters (now keys) count ⌝ }
-    requires { ⌜ (count ≤ 256) × (count * (1 + letters) ≤ length (now table)) ⌝ }
-    ensures { λ _. ⌜ now (table .exit) ≡ tableAfter (now (codes .entry)) (now (kinds .entry)) m (now (sums .entry)) letters (now (keys .entry)) count (now (table .entry)) ⌝ }
+    keys: &mut [i32],
+    path: &mut [u16],
+    table: &mut [u16],
+    rows: usize,
+) -> Stand
+    requires { ⌜ Filling (now codes) (now kinds) m (now sums) letters rows (now keys) (now path) (now table) ⌝ }
+    requires { ⌜ rows ≤ 256 ⌝ }
+    ensures { λ r. ⌜ FilledFrom (now (codes .entry)) (now (kinds .entry)) m (now (sums .entry)) letters rows 1 (now (keys .entry)) (now (path .entry)) (now (table .entry)) (now (keys .exit)) (now (path .exit)) (now (table .exit)) r ⌝ }
 {
-    let mut head = [0u16; FEW];
-    let mut next = [0u16; FEW];
-    write_indexed(
-        table,
+    let mut head = [NONE; FEW];
+    let mut next = [NONE; FEW];
+    fill_from(
         codes,
         kinds,
         m,
         sums,
         letters,
         keys,
+        path,
+        table,
         &mut head,
         &mut next,
-        count,
-    );
+        rows,
+        1,
+        0,
+        0,
+    )
 }
 
-// An index for all rows that there can be.
-fn write_many(
-    table: &mut [u16],
+// On from where it stands, with a large index.
+fn fill_many(
     codes: &[u8; 64],
     kinds: &[u8; 8],
     m: usize,
     sums: &[i32; 512],
     letters: usize,
-    keys: &[i32],
+    keys: &mut [i32],
+    path: &mut [u16],
+    table: &mut [u16],
+    rows: usize,
     count: usize,
-)
-    requires { ⌜ Tabling (now codes) (now kinds) m (now sums) letters (now keys) count ⌝ }
-    requires { ⌜ (count ≤ 65535) × (count * (1 + letters) ≤ length (now table)) ⌝ }
-    ensures { λ _. ⌜ now (table .exit) ≡ tableAfter (now (codes .entry)) (now (kinds .entry)) m (now (sums .entry)) letters (now (keys .entry)) count (now (table .entry)) ⌝ }
+    row: usize,
+    letter: usize,
+) -> Stand
+    requires { ⌜ Filling (now codes) (now kinds) m (now sums) letters rows (now keys) (now path) (now table) ⌝ }
+    requires { ⌜ Stands (machineIn (now codes) (now kinds) m (now sums) letters (now keys)) m rows false (now keys) (now path) count row letter ⌝ }
+    ensures { λ r. ⌜ FilledFrom (now (codes .entry)) (now (kinds .entry)) m (now (sums .entry)) letters rows count (now (keys .entry)) (now (path .entry)) (now (table .entry)) (now (keys .exit)) (now (path .exit)) (now (table .exit)) r ⌝ }
 {
-    let mut head = [0u16; MANY];
-    let mut next = [0u16; MANY];
-    write_indexed(
-        table,
+    let mut head = [NONE; MANY];
+    let mut next = [NONE; MANY];
+    fill_from(
         codes,
         kinds,
         m,
         sums,
         letters,
         keys,
+        path,
+        table,
         &mut head,
         &mut next,
+        rows,
         count,
-    );
+        row,
+        letter,
+    )
 }
 
-// Writes the table of the key rows, which are all there.
-fn write_table(
-    table: &mut [u16],
-    codes: &[u8; 64],
-    kinds: &[u8; 8],
-    m: usize,
-    sums: &[i32; 512],
-    letters: usize,
-    keys: &[i32],
-    count: usize,
-)
-    requires { ⌜ Tabling (now codes) (now kinds) m (now sums) letters (now keys) count ⌝ }
-    requires { ⌜ (count ≤ 65535) × (count * (1 + letters) ≤ length (now table)) ⌝ }
-    ensures { λ _. ⌜ now (table .exit) ≡ tableAfter (now (codes .entry)) (now (kinds .entry)) m (now (sums .entry)) letters (now (keys .entry)) count (now (table .entry)) ⌝ }
+// The answer, once the table is written or no row is left.
+fn answer(s: Stand) -> BuildAnswer
+    ensures { λ r. ⌜ r ≡ answerBy (s .stopped) (s .count) ⌝ }
 {
-    if count <= FEW {
-        write_few(table, codes, kinds, m, sums, letters, keys, count);
-    } else {
-        write_many(table, codes, kinds, m, sums, letters, keys, count);
+    let states = s.count;
+    if s.stopped {
+        return BuildAnswer::NoRoom { states };
     }
+    BuildAnswer::Built { states }
 }
 
 // Numbers the states from the start's, which is row 0 already, and writes the table if each of them has a row.
@@ -278,23 +302,28 @@ fn fill(
     requires { ⌜ rows * (1 + letters) ≤ length (now table) ⌝ }
     ensures { λ r. ⌜ Builds (filled (machineIn (now (codes .entry)) (now (kinds .entry)) m (now (sums .entry)) letters (now (keys .entry))) rows (now (keys .entry)) (now (table .entry))) r (now (keys .exit)) (now (table .exit)) ⌝ }
 {
+    // Only deciding has a path area.
     let mut path = [0u16; 1];
-    let explored = number_rows(codes, kinds, m, sums, letters, keys, &mut path, rows, false);
-    match explored {
-        Explored::All { states } => {
-            write_table(table, codes, kinds, m, sums, letters, keys, states);
-            BuildAnswer::Built { states }
-        }
-        Explored::NoRoom { states } => BuildAnswer::NoRoom { states },
-        // Only deciding finds a state.
-        Explored::Found { states } => BuildAnswer::NoRoom { states },
+    let few = least(rows, FEW);
+    let s = fill_few(codes, kinds, m, sums, letters, keys, &mut path, table, few);
+    if s.lacks(few, rows) {
+        let t = fill_many(
+            codes,
+            kinds,
+            m,
+            sums,
+            letters,
+            keys,
+            &mut path,
+            table,
+            rows,
+            s.count,
+            s.row,
+            s.letter,
+        );
+        return answer(t);
     }
-}
-
-fn least(a: usize, b: usize) -> usize
-    ensures { λ r. ⌜ r ≡ min a b ⌝ }
-{
-    if a < b { a } else { b }
+    answer(s)
 }
 
 // R: how many rows are lent.

@@ -1,6 +1,7 @@
 // Deciding a question: the first word that its machine accepts, or that there is none, or that the areas lent have no room to tell.
 use explore::Explored;
 use explore::accepts;
+use explore::least;
 use explore::number_rows;
 use index::store_row;
 use scope::DecideAnswer;
@@ -21,12 +22,6 @@ ghost use Rattle.decide.specs.Explores.{Explores};
 ghost use Rattle.decide.specs.Lends.{heldQuestion, Lends};
 ghost use Rattle.decide.specs.Path.{pathWord, Linked};
 ghost use Rattle.decide.specs.Start.{StartPut};
-
-fn least(a: usize, b: usize) -> usize
-    ensures { λ r. ⌜ r ≡ min a b ⌝ }
-{
-    if a < b { a } else { b }
-}
 
 // R: how many rows are lent.
 fn room(keys: usize, path: usize, m: usize) -> usize

@@ -3,5 +3,3 @@ pub mod Cells
 pub mod Steps
 pub mod Trying
 pub mod Going
-pub mod Stages
-pub mod Ends

@@ -1,17 +1,15 @@
 -- What trying a letter does to where exploring stands, over any lawful machine of key rows: the target has a row, or gets one.
 use Prim.Native.Nat.{ℕ, suc, _+_, _*_, _≤_, _<_}
 use mathlib.Core.Path.{_≡_, refl, sym, ap, _∙_}
-use mathlib.Core.Logic.{by-cases}
 use mathlib.Core.Bool.{Bool, true, false}
 use mathlib.Core.List.{List}
-use native.Mathlib.Decide.{ℕ-discrete}
 use native.Mathlib.Nat.{mul-le-mul-right}
 use native.Mathlib.Numerals.{add-one}
 use native.Mathlib.Omega.{arith}
-use lib.ListN.{length, take}
+use lib.ListN.{take}
 use lib.Seq.{take-take, paste}
 use lib.IntN.{ℤ}
-use Rattle.scope.specs.Numbering.{Machine, row, numbered}
+use Rattle.scope.specs.Numbering.{Machine, row}
 use Rattle.theory.specs.Lawful.{Lawful}
 use Rattle.theory.specs.Table.{HasRow}
 use Rattle.theory.specs.Exploring.{partial, target, New, grown, partial-zero, partial-all, partial-old, partial-new, grown-none}
@@ -21,31 +19,26 @@ use Rattle.index.specs.Index.{Finds}
 use Rattle.explore.specs.Machine.{KeyRow}
 use Rattle.explore.specs.Areas.{Held, Stored, RowRoom, held-row, held-more}
 use Rattle.explore.specs.Standing.{Lent, There, Stands, After, next-letter, next-row, FoundAt}
+use Rattle.explore.specs.Stages.{has-begun}
 
 one-row : (count m : ℕ) → 0 < count → m ≤ count * m
 one-row count m h = let e : 1 * m ≤ count * m = mul-le-mul-right m h in omega arith
 
 module _ (M : Machine (List ℤ)) (ok : Lawful M) {m rows : ℕ} {deciding : Bool} {keys : List ℤ} {path : List ℕ} {count i a : ℕ}
     (s : Stands M m rows deciding keys path count i a) (below : i < count) where
-  pub has-begun : i < length (numbered M i)
-  has-begun =
-      by-cases (ℕ-discrete a 0)
-      (λ e. let l : length (numbered M i) ≡ count = rw (e, partial-zero M i) at (s .rows-there .held .count-is) in omega arith)
-      (λ ne. s .begun ne)
-
   -- the place after it
   pub goes-on : {keys′ : List ℤ} {path′ : List ℕ} (count′ : ℕ) → count ≤ count′ → {i′ a′ : ℕ} → After (M .letters) i a i′ a′
       → There M m rows deciding keys′ path′ count′ (partial M i (suc a)) → Stands M m rows deciding keys′ path′ count′ i′ a′
   goes-on count′ more (next-letter p) t = record {
     rows-there = rw add-one t;
     letter-ok = p;
-    begun = λ _. has-begun;
+    begun = λ _. has-begun M s below;
     row-ok = omega arith;
   }
   goes-on count′ more (next-row p) t = record {
     rows-there =
         let e : partial M i (suc a) ≡ partial M (i + 1) 0 =
-        ap (partial M i) (sym (add-one a) ∙ p) ∙ partial-all M i has-begun ∙ sym (partial-zero M (suc i)) ∙ rw add-one in
+        ap (partial M i) (sym (add-one a) ∙ p) ∙ partial-all M i (has-begun M s below) ∙ sym (partial-zero M (suc i)) ∙ rw add-one in
         rw (← e) t;
     letter-ok = omega arith;
     begun = λ ne. absurd (ne refl);
@@ -99,7 +92,7 @@ module _ (M : Machine (List ℤ)) (ok : Lawful M) {m rows : ℕ} {deciding : Boo
     pub found-row : deciding ≡ true → M .accepts (target M (partial M i a) i a) ≡ true → FoundAt M m rows deciding keys′ path′ (count + 1) i a
     found-row d e = record {
       is-deciding = d;
-      spot = record { begun = has-begun; letter-ok = s .letter-ok; new = new };
+      spot = record { begun = has-begun M s below; letter-ok = s .letter-ok; new = new };
       count-ok = omega arith;
       held = held-grown;
       none = s .rows-there .none d;

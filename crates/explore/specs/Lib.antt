@@ -3,4 +3,6 @@ pub mod Machine
 pub mod Areas
 pub mod Standing
 pub mod Outcome
+pub mod Stages
+pub mod Ends
 pub mod Simulated

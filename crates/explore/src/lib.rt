@@ -1,8 +1,9 @@
 // The numbering loop that deciding and building share: row by row, each letter in order, a state that has no row yet gets the next one.
 use formula::formula_worth;
+use index::NONE;
 use index::add;
 use index::find;
-use index::rebuild;
+use index::insert_rows;
 use step::step_row;
 use step::worths_at;
 ghost use mathlib.Core.Path.{_≡_};
@@ -19,20 +20,20 @@ ghost use Rattle.explore.specs.Areas.{pathCount, pathWith, RowRoom};
 ghost use Rattle.explore.specs.Outcome.{exploredBy, Ready, Numbered};
 ghost use Rattle.explore.specs.Standing.{Lacks, Task, Linked, Stands, Moved, RowFits, RowAdded, Tried, Ended};
 
-// The rows for which the small index has room, and its buckets.
-const FEW: usize = 256;
+// The rows for which a small index has room, and its buckets: a small question does not pay for making a large one.
+pub const FEW: usize = 256;
 
-// The same of the large index.
-const MANY: usize = 65_536;
+// The same of a large index, which has room for all rows that there can be.
+pub const MANY: usize = 65_536;
 
 // Where exploring stands: the rows so far, and the row and the letter that come next.
-struct Stand {
-    count: usize,
-    row: usize,
-    letter: usize,
+pub struct Stand {
+    pub count: usize,
+    pub row: usize,
+    pub letter: usize,
     // It goes no further: the letter leads to a new state, which accepts, or else has no row left.
-    stopped: bool,
-    accepted: bool,
+    pub stopped: bool,
+    pub accepted: bool,
 }
 
 impl Stand {
@@ -74,7 +75,7 @@ impl Stand {
     }
 
     // Whether it stopped for want of rows, and there are more.
-    fn lacks(self, few: usize, rows: usize) -> bool
+    pub fn lacks(self, few: usize, rows: usize) -> bool
         ensures { λ r. ⌜ Lacks few rows self r ⌝ }
     {
         if self.stopped {
@@ -246,6 +247,7 @@ fn explore(
     requires { ⌜ Stands (cellMachine (now codes) (now kinds) m (now sums) letters (take m (now keys))) m rows deciding (now keys) (now path) count row letter ⌝ }
     requires { ⌜ Linked m rows (now keys) (now head) (now next) count ⌝ }
     ensures { λ r. ⌜ Ended (cellMachine (now (codes .entry)) (now (kinds .entry)) m (now (sums .entry)) letters (take m (now (keys .entry)))) m rows deciding (now (keys .entry)) (now (path .entry)) count (now (keys .exit)) (now (path .exit)) r ⌝ }
+    ensures { λ r. ⌜ (r .stopped ≡ false → Linked m rows (now (keys .exit)) (now (head .exit)) (now (next .exit)) (r .count)) ⌝ }
 {
     let mut key = [0i32; 8];
     let mut s = Stand::going(count, row, letter);
@@ -274,8 +276,8 @@ fn explore(
     s
 }
 
-// The same with an index that is made anew.
-fn resume(
+// The same with an index that has no row yet. Where every row is expanded, it has them all.
+pub fn resume(
     codes: &[u8; 64],
     kinds: &[u8; 8],
     m: usize,
@@ -293,10 +295,11 @@ fn resume(
 ) -> Stand
     requires { ⌜ Task (now codes) m (now sums) letters ⌝ }
     requires { ⌜ Stands (cellMachine (now codes) (now kinds) m (now sums) letters (take m (now keys))) m rows deciding (now keys) (now path) count row letter ⌝ }
-    requires { ⌜ (0 < length (now head)) × (length (now head) ≤ 65536) × (rows ≤ length (now next)) ⌝ }
+    requires { ⌜ Linked m rows (now keys) (now head) (now next) 0 ⌝ }
     ensures { λ r. ⌜ Ended (cellMachine (now (codes .entry)) (now (kinds .entry)) m (now (sums .entry)) letters (take m (now (keys .entry)))) m rows deciding (now (keys .entry)) (now (path .entry)) count (now (keys .exit)) (now (path .exit)) r ⌝ }
+    ensures { λ r. ⌜ (r .stopped ≡ false → Linked m rows (now (keys .exit)) (now (head .exit)) (now (next .exit)) (r .count)) ⌝ }
 {
-    rebuild(keys, m, head, next, count);
+    insert_rows(keys, m, head, next, count);
     explore(
         codes,
         kinds,
@@ -315,7 +318,7 @@ fn resume(
     )
 }
 
-// Explores from the start, with a small index: a small question does not pay for clearing a large one.
+// Explores from the start, with a small index.
 fn explore_few(
     codes: &[u8; 64],
     kinds: &[u8; 8],
@@ -332,8 +335,8 @@ fn explore_few(
     requires { ⌜ rows ≤ 256 ⌝ }
     ensures { λ r. ⌜ Ended (cellMachine (now (codes .entry)) (now (kinds .entry)) m (now (sums .entry)) letters (take m (now (keys .entry)))) m rows deciding (now (keys .entry)) (now (path .entry)) 1 (now (keys .exit)) (now (path .exit)) r ⌝ }
 {
-    let mut head = [0u16; FEW];
-    let mut next = [0u16; FEW];
+    let mut head = [NONE; FEW];
+    let mut next = [NONE; FEW];
     resume(
         codes,
         kinds,
@@ -352,7 +355,7 @@ fn explore_few(
     )
 }
 
-// Explores on from where it stands, with an index for all rows that there can be.
+// Explores on from where it stands, with a large one.
 fn explore_many(
     codes: &[u8; 64],
     kinds: &[u8; 8],
@@ -371,8 +374,8 @@ fn explore_many(
     requires { ⌜ Stands (cellMachine (now codes) (now kinds) m (now sums) letters (take m (now keys))) m rows deciding (now keys) (now path) count row letter ⌝ }
     ensures { λ r. ⌜ Ended (cellMachine (now (codes .entry)) (now (kinds .entry)) m (now (sums .entry)) letters (take m (now (keys .entry)))) m rows deciding (now (keys .entry)) (now (path .entry)) count (now (keys .exit)) (now (path .exit)) r ⌝ }
 {
-    let mut head = [0u16; MANY];
-    let mut next = [0u16; MANY];
+    let mut head = [NONE; MANY];
+    let mut next = [NONE; MANY];
     resume(
         codes,
         kinds,
@@ -391,14 +394,10 @@ fn explore_many(
     )
 }
 
-// As many of the rows as the small index has room for.
-fn few_of(rows: usize) -> usize
-    ensures { λ r. ⌜ r ≡ min rows 256 ⌝ }
+pub fn least(a: usize, b: usize) -> usize
+    ensures { λ r. ⌜ r ≡ min a b ⌝ }
 {
-    if rows < FEW {
-        return rows;
-    }
-    FEW
+    if a < b { a } else { b }
 }
 
 // Numbers the states from the start's, which is row 0 already, in at most so many rows. Deciding, it writes the path area and stops at the
@@ -418,7 +417,7 @@ pub fn number_rows(
     requires { ⌜ Ready (cellMachine (now codes) (now kinds) m (now sums) letters (take m (now keys))) m rows deciding (now keys) (now path) ⌝ }
     ensures { λ r. ⌜ Numbered (cellMachine (now (codes .entry)) (now (kinds .entry)) m (now (sums .entry)) letters (take m (now (keys .entry)))) rows deciding (now (keys .entry)) (now (path .entry)) (now (keys .exit)) (now (path .exit)) r ⌝ }
 {
-    let few = few_of(rows);
+    let few = least(rows, FEW);
     let s = explore_few(codes, kinds, m, sums, letters, keys, path, few, deciding);
     if s.lacks(few, rows) {
         let t = explore_many(

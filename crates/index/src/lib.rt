@@ -2,14 +2,14 @@
 // The rows of a bucket are chained newest first: `head` has each bucket's newest row, and `next` for each row the newest before it.
 ghost use mathlib.Core.Path.{_≡_};
 ghost use Prim.Native.Nat.{_+_, _*_, _≤_, _<_};
-ghost use lib.ListN.{length, getD, set, take, replicate};
+ghost use lib.ListN.{length, getD, set, take};
 ghost use lib.Seq.{paste};
 ghost use Rattle.index.specs.Rows.{rowAt};
 ghost use Rattle.index.specs.Hash.{codeOf, hashOf, bucketOf};
 ghost use Rattle.index.specs.Index.{Key, Says, Indexed, Finds, Room, Sized, Added};
 
-// No row: the link of a bucket that has none, and of a bucket's oldest row.
-const NONE: u16 = 65_535;
+// No row: the link of a bucket that has none, and of a bucket's oldest row. Where every bucket has it, no row is indexed.
+pub const NONE: u16 = 65_535;
 
 // A cell as a number that is not negative.
 fn code(x: i32) -> usize
@@ -163,23 +163,12 @@ pub fn add(
     insert(keys, m, key, head, next, count);
 }
 
-// Clears every bucket: no row is indexed.
-pub fn clear(head: &mut [u16])
-    ensures { λ _. ⌜ now (head .exit) ≡ replicate (length (now (head .entry))) 65535 ⌝ }
-{
-    let mut b = 0;
-    while b < head.len() {
-        head[b] = NONE;
-        b += 1;
-    }
-}
-
-// Indexes the first count rows anew, whatever the links were: none to begin with, or those there are in more buckets.
-pub fn rebuild(keys: &[i32], m: usize, head: &mut [u16], next: &mut [u16], count: usize)
+// Indexes the first count rows, where no row is indexed yet: as at first, or to go on with more buckets.
+pub fn insert_rows(keys: &[i32], m: usize, head: &mut [u16], next: &mut [u16], count: usize)
+    requires { ⌜ Indexed (now keys) m (now head) (now next) 0 ⌝ }
     requires { ⌜ Sized (now keys) m (now head) (now next) count ⌝ }
     ensures { λ _. ⌜ Indexed (now (keys .entry)) m (now (head .exit)) (now (next .exit)) count ⌝ }
 {
-    clear(head);
     let mut row = 0;
     while row < count {
         let key = load_row(keys, m, row);

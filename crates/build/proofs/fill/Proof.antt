@@ -1,46 +1,59 @@
--- `build::fill` meets its contract: by how numbering ended every row is there, or there was no room. Assumes nothing.
+-- `build::fill` meets its contract: few rows first, which are enough, or give way to all where they are full. Assumes nothing.
 use mathlib.Core.List.{[], _∷_}
-use Prim.Native.Nat.{_+_}
+use Prim.Native.Nat.{_≤_}
+use native.Mathlib.Omega.{arith}
 use borrow.Author.Needs.{needs}
-use lib.ListN.{length}
-use Rattle.build.specs.Builds.{any-path, all-rows, states-fit, table-fits, tabling, all-built, no-room, building-finds-none}
+use Rattle.build.specs.Builds.{any-path}
+use Rattle.build.specs.Filling.{Filling, few-filling, few-built, many-filling, many-stands, many-built}
 use Rattle.build.proofs.fill.Statement.{statement}
 use Rattle.build.proofs.fill.Tie as tie
 
-number-rows-requires : tie.Need-number-rows-requires
-number-rows-requires c κs = let start = c .before .before .before in (start .pre .0, any-path (0 ∷ []) (start .pre .1 .0))
+-- what is handed over, with the path area that building does not look at
+filling : (s : tie.Start)
+    → let a = s .args in
+    Filling (a .codes .now) (a .kinds .now) (a .m) (a .sums .now) (a .letters) (a .rows) (a .keys .now) (0 ∷ []) (a .table .now)
+filling s = record { task = s .pre .0; ready = any-path (0 ∷ []) (s .pre .1 .0); table-room = s .pre .1 .1 }
 
-write-table-requires : tie.Need-write-table-requires
-write-table-requires c κs =
-    let start = c .before .before .before .before .before .before .before .before .before .before .before in
-    let called = c .before .before .before .before .before .before .before .number-rows in
-    let all = all-rows (rw (c .before .before .before .explored .given .1) at (called .ensures)) in
-    let kinds = start .args .kinds .now in (
-      tabling kinds (start .pre .0) (start .pre .1 .0) all,
-      (
-        states-fit kinds (start .pre .0) (start .pre .1 .0) all,
-        table-fits kinds (start .pre .0) (start .pre .1 .0) all (1 + start .args .letters) (length (start .args .table .now)) (start .pre .1 .1),
-      ),
+abbrev start : tie.After-least → tie.Start
+start c = c .before .before
+
+fewer : (c : tie.After-least) → c .least .result ≤ start c .args .rows
+fewer c = omega (arith, c .least .ensures)
+
+fill-few-requires : tie.Need-fill-few-requires
+fill-few-requires c κs =
+    let counted = c .before .before .before in
+    let given = filling (start counted) in
+    (few-filling given (fewer counted) (omega (arith, counted .least .ensures, given .ready .some-rows)), omega (arith, counted .least .ensures))
+
+fill-many-requires : tie.Need-fill-many-requires
+fill-many-requires c κs =
+    let lacked = rw (c .before .before .before .if1 .taken) at (c .before .before .before .before .lacks .ensures) in
+    let called = c .before .before .before .before .before .before .before .before .before .fill-few in
+    let counted = c .before .before .before .before .before .before .before .before .before .before .before .before .before in
+    let same = called .kept .1 .1 .1 .1 .1 .0 in (
+      many-filling (filling (start counted)) (fewer counted) (called .ensures) same lacked,
+      many-stands (filling (start counted)) (fewer counted) (called .ensures) same lacked,
     )
 
 returns : tie.Need-returns
 returns c =
-    let start = c .before .before .before .before .before .before .before .before .before .before .before .before .before .before in
-    let called = c .before .before .before .before .before .before .before .before .before .before .number-rows in
-    let all = all-rows (rw (c .before .before .before .before .before .before .explored .given .1) at (called .ensures)) in
-    all-built (start .args .kinds .now) (start .pre .0) (start .pre .1 .0) all (start .args .table .now) (c .before .before .write-table .ensures)
+    let many = c .before .before .before .before .before .fill-many in
+    let lacked = rw (c .before .before .before .before .before .before .before .before .before .if1 .taken) at (c .before .before .before .before .before .before .before .before .before .before .lacks .ensures) in
+    let few = c .before .before .before .before .before .before .before .before .before .before .before .before .before .before .before .fill-few in
+    let counted = c .before .before .before .before .before .before .before .before .before .before .before .before .before .before .before .before .before .before .before in
+    rw (c .answer .ensures)
+    (many-built (filling (start counted)) (fewer counted) (few .ensures) (few .kept .1 .1 .1 .1 .1 .0) lacked (many .ensures) (many .kept .1 .1 .1 .1 .1 .0))
 
 returns-2 : tie.Need-returns-2
 returns-2 c =
-    let start = c .before .before .before .before .before .before .before .before .before in
-    no-room (start .args .table .now) (rw (c .before .explored2 .given .1) at (c .before .before .before .before .before .number-rows .ensures))
-
-returns-3 : tie.Need-returns-3
-returns-3 c = absurd (building-finds-none (rw (c .before .explored3 .given .1) at (c .before .before .before .before .before .number-rows .ensures)))
+    let few = c .before .before .before .before .before .before .before .fill-few in
+    let counted = c .before .before .before .before .before .before .before .before .before .before .before in
+    rw (c .answer2 .ensures)
+    (few-built (filling (start counted)) (fewer counted) (few .ensures) (few .kept .1 .1 .1 .1 .1 .0) (rw (c .before .if1 .left) at (c .before .before .lacks .ensures)))
 
 pub fill-spec : {M : Type 1} → statement M
 fill-spec =
     tie.close
-    (tie.spec (λ c. search needs) number-rows-requires (λ c. search needs) write-table-requires (λ c. search needs) (λ
-    c. search needs) (λ c. search needs) (λ c. search needs) returns (λ c. search needs) returns-2 (λ c. search needs)
-    returns-3)
+    (tie.spec (λ c κs. search needs) (λ c. search needs) fill-few-requires (λ c κs. search needs) (λ c. search needs) fill-many-requires
+    (λ c κs. search needs) (λ c. search needs) (λ c. search needs) returns (λ c κs. search needs) (λ c. search needs) (λ c. search needs) returns-2)

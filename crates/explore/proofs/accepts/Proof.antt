@@ -5,7 +5,6 @@ use borrow.Author.Needs.{needs}
 use lib.ListN.{replicate}
 use Rattle.theory.specs.Joined.{atFront-length}
 use Rattle.formula.specs.Alike.{worth-alike}
-use Rattle.step.specs.Cells.{worthCells}
 use Rattle.step.specs.Laws.{worth-length}
 use Rattle.explore.proofs.Cells.{alike-front}
 use Rattle.explore.proofs.accepts.Statement.{statement}
@@ -14,9 +13,7 @@ use Rattle.explore.proofs.accepts.Tie as tie
 formula-worth-requires : tie.Need-formula-worth-requires
 formula-worth-requires c κs =
     let start = c .before .before .before in
-    let a = start .args in
-    let size = worth-length (a .kinds .now) (a .m) (a .keys .now) (a .at) in
-    (start .pre .0, rw (c .before .worths-at .ensures) (atFront-length (worthCells (a .kinds .now) (a .m) (a .keys .now) (a .at)) (replicate 8 false) (rw size (start .pre .1))))
+    (start .pre .0, rw (c .before .worths-at .ensures) (atFront-length _ (replicate 8 false) (rw worth-length (start .pre .1))))
 
 returns : tie.Need-returns
 returns c = rw (c .before .before .worths-at .ensures) at (c .formula-worth .ensures) ∙ worth-alike _ _ _ (alike-front 8 _)

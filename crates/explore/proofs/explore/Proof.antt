@@ -1,6 +1,7 @@
 -- `explore::explore` meets its contract. The invariant: exploring stands somewhere and has not stopped. The measure is how many letters of
 -- how many rows there are left at most. Assumes nothing.
-use mathlib.Core.Path.{_≡_, refl, _∙_}
+use mathlib.Core.Path.{_≡_, refl, sym, _∙_}
+use mathlib.Core.Bool.{true≢false}
 use native.Mathlib.Omega.{arith}
 use borrow.Author.Needs.{needs}
 use lib.ListN.{length, take}
@@ -49,8 +50,10 @@ same-length-4 c = c .before .before .before .before .before .before .before .bef
 
 returns : tie.Need-returns Inv-loop μ-loop
 returns c =
-    let e = c .before .before .before .before .before .before .before .before .before .before .before .before .before .before .before .before .loop .inv .5 in
-    stops e (rw (start-stays (runs (c .before .before .before .before .before .before .before .before .before .before .before .before .before .before .before .before .before .before .before .before .before)) (stands e)) at (c .before .before .before .before .before .before .before .before .try-letter .ensures .0)) (c .if2 .taken)
+    let e = c .before .before .before .before .before .before .before .before .before .before .before .before .before .before .before .before .loop .inv .5 in (
+      stops e (rw (start-stays (runs (c .before .before .before .before .before .before .before .before .before .before .before .before .before .before .before .before .before .before .before .before .before)) (stands e)) at (c .before .before .before .before .before .before .before .before .try-letter .ensures .0)) (c .if2 .taken),
+      λ going. absurd (true≢false (sym (c .if2 .taken) ∙ going)),
+    )
 
 loop-less : tie.Need-loop-less Inv-loop μ-loop
 loop-less c =
@@ -89,7 +92,7 @@ same-length-8 : tie.Need-same-length-8 Inv-loop μ-loop
 same-length-8 c = c .before .before .loop .inv .3
 
 returns-2 : tie.Need-returns-2 Inv-loop μ-loop
-returns-2 c = ends (c .before .before .loop .inv .5) (c .if1 .left)
+returns-2 c = let e = c .before .before .loop .inv .5 in (ends e (c .if1 .left), λ _. e .linked)
 
 pub explore-spec : {M : Type 1} → statement M
 explore-spec =

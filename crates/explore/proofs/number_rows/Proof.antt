@@ -5,10 +5,10 @@ use native.Mathlib.Omega.{arith}
 use borrow.Author.Needs.{needs}
 use lib.ListN.{take}
 use Rattle.explore.specs.Machine.{cellMachine}
+use Rattle.explore.specs.Stages.{start-stands, more-stands, stopped-full, ended-after}
+use Rattle.explore.specs.Ends.{ended-numbered}
 use Rattle.explore.proofs.Trying.{Runs, cell-runs}
 use Rattle.explore.proofs.Going.{start-stays}
-use Rattle.explore.proofs.Stages.{start-stands, more-stands, stopped-full, ended-after}
-use Rattle.explore.proofs.Ends.{ended-numbered}
 use Rattle.explore.proofs.number_rows.Statement.{statement}
 use Rattle.explore.proofs.number_rows.Tie as tie
 
@@ -19,7 +19,7 @@ runs s = cell-runs (s .args .codes .now) (s .args .kinds .now) (s .args .m) (s .
 explore-few-requires : tie.Need-explore-few-requires
 explore-few-requires c κs =
     let s = c .before .before .before .before in
-    let f = c .before .before .few-of in
+    let f = c .before .before .least in
     let r = s .pre .1 in (
       s .pre .0,
       (
@@ -65,7 +65,7 @@ returns-2 : tie.Need-returns-2
 returns-2 c =
     let s = c .before .before .before .before .before .before .before .before .before .before .before in
     let few = c .before .before .before .before .before .before .explore-few in
-    let f = c .before .before .before .before .before .before .before .before .before .few-of in
+    let f = c .before .before .before .before .before .before .before .before .before .least in
     let r = s .pre .1 in
     rw (c .explored2 .ensures)
     (ended-numbered

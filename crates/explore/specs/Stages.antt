@@ -1,25 +1,36 @@
 -- The two stages of exploring: it begins at the start's row with few rows, and goes on, where these are full, with all.
 use Prim.Native.Nat.{ℕ, _*_, _≤_, _<_}
 use mathlib.Core.Path.{_≡_, refl}
+use mathlib.Core.Logic.{by-cases}
 use mathlib.Core.Bool.{Bool, true, false}
 use mathlib.Core.List.{List, [], _∷_, append-nil}
+use native.Mathlib.Decide.{ℕ-discrete}
 use native.Mathlib.Nat.{mul-le-mul-right, one-mul}
 use native.Mathlib.Omega.{arith}
-use lib.ListN.{length, take}
+use lib.ListN.{length, take, replicate, length-replicate}
 use lib.Seq.{getD-take, length-take-le}
 use lib.IntN.{ℤ, pos}
 use Rattle.scope.specs.Whole.{joined}
-use Rattle.scope.specs.Numbering.{Machine, startRow}
+use Rattle.scope.specs.Numbering.{Machine, startRow, numbered}
 use Rattle.theory.specs.Exploring.{partial-zero, start-rows, start-none}
+use Rattle.index.specs.Laws.{none-indexed}
 use Rattle.explore.specs.declared.Stand.{Stand}
 use Rattle.explore.specs.Machine.{KeyRow}
 use Rattle.explore.specs.Areas.{rowCells, pathRows, pathCount, path-count-le, Held, kept-trans}
-use Rattle.explore.specs.Standing.{Lent, Stands, FullAt, Ended}
+use Rattle.explore.specs.Standing.{Lent, Linked, Stands, FullAt, Ended}
 use Rattle.explore.specs.Outcome.{Ready}
 
 take-none : {A : Type 0} (l : List A) → take 0 l ≡ []
 take-none [] = refl
 take-none (x ∷ l) = refl
+
+-- ---- an index as it is made: every bucket and link is none
+
+pub none-linked : (m rows : ℕ) (keys : List ℤ) (n : ℕ) → m ≤ 8 → 0 < n → n ≤ 65536 → rows ≤ n → Linked m rows keys (replicate n 65535) (replicate n 65535) 0
+none-linked m rows keys n width some few room = record {
+  indexed = none-indexed keys m n (replicate n 65535) width some few;
+  links = rw length-replicate room;
+}
 
 -- ---- the start's row
 
@@ -66,6 +77,15 @@ module _ (M : Machine (List ℤ)) {m rows : ℕ} {deciding : Bool} {keys : List 
         begun = λ ne. absurd (ne refl);
         row-ok = omega arith;
       }
+
+-- ---- a row that is expanded, or is being expanded, is there
+
+pub has-begun : (M : Machine (List ℤ)) {m rows : ℕ} {deciding : Bool} {keys : List ℤ} {path : List ℕ} {count i a : ℕ}
+    → Stands M m rows deciding keys path count i a → i < count → i < length (numbered M i)
+has-begun M {count = count} {i} {a} s below =
+    by-cases (ℕ-discrete a 0)
+    (λ e. let l : length (numbered M i) ≡ count = rw (e, partial-zero M i) at (s .rows-there .held .count-is) in omega arith)
+    (λ ne. s .begun ne)
 
 -- ---- from few rows to all
 

@@ -20,7 +20,7 @@ use Rattle.explore.specs.declared.Explored.{Explored}
 use Rattle.explore.specs.Areas.{pathCount, path-count-le, Held, Kept, keys-front, path-front}
 use Rattle.explore.specs.Standing.{Stands, FoundAt, FullAt, StandsBy, Ended}
 use Rattle.explore.specs.Outcome.{outcome, exploredAs, exploredBy, Numbered}
-use Rattle.explore.proofs.Steps.{has-begun}
+use Rattle.explore.specs.Stages.{has-begun}
 
 module _ (M : Machine (List ℤ)) (ok : Lawful M) (m rows : ℕ) (deciding : Bool) (keys₀ : List ℤ) (path₀ : List ℕ) {keys : List ℤ} {path : List ℕ}
     (keys-room : rows * m ≤ length keys) (path-room : pathCount deciding rows ≤ length path) where
@@ -94,7 +94,7 @@ module _ (M : Machine (List ℤ)) (ok : Lawful M) (m rows : ℕ) (deciding : Boo
 
     begun : i < length (numbered M i)
     unfolding s
-    begun = has-begun M ok s (f .below)
+    begun = has-begun M s (f .below)
 
     room : i < rows
     room = omega (arith, f .below, f .full)
