@@ -5,15 +5,15 @@ use crate::areas::Rows;
 use crate::areas::cells_of;
 use crate::areas::rows_of;
 use crate::areas::says;
-use crate::compared::cells_filled;
-use crate::compared::numbers_filled;
-use crate::compared::same_cells;
 use crate::lines::stretch;
 use crate::lines::word;
 use crate::numbers::hexed;
 use crate::numbers::numbers;
 use crate::numbers::size;
 use crate::reading::BYTES;
+use compared::cells_filled;
+use compared::numbers_filled;
+use compared::same_cells;
 use scope::BuildAnswer;
 
 // Building's lines lend few rows, so that its areas are small.

@@ -2,7 +2,6 @@
 // A line that cannot be taken apart counts as wrong. What a program prints is tested and not proved; that it is safe and ends is proved.
 mod areas;
 mod building;
-mod compared;
 mod deciding;
 mod judging;
 mod lines;

@@ -1,15 +1,15 @@
 // read BYTES accepted N CODES COEFFICIENTS CONSTANTS | refused NUMBER PLACE
 ghost use Prim.Native.Nat.{_≤_};
-use crate::compared::bytes_hold;
-use crate::compared::numbers_filled;
-use crate::compared::same_bytes;
-use crate::compared::same_numbers;
 use crate::lines::stretch;
 use crate::lines::word;
 use crate::numbers::hexed;
 use crate::numbers::signed_numbers;
 use crate::numbers::size;
 use crate::numbers::small_numbers;
+use compared::bytes_hold;
+use compared::numbers_filled;
+use compared::same_bytes;
+use compared::same_numbers;
 use scope::Question;
 use scope::ReadAnswer;
 use scope::Refusal;

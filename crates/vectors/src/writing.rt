@@ -1,6 +1,4 @@
 // write N CODES COEFFICIENTS CONSTANTS ROOM written BYTES | refused NUMBER PLACE
-use crate::compared::bytes_hold;
-use crate::compared::same_bytes;
 use crate::lines::word;
 use crate::numbers::Count;
 use crate::numbers::hexed;
@@ -9,6 +7,8 @@ use crate::numbers::size;
 use crate::numbers::small_numbers;
 use crate::reading::BYTES;
 use crate::reading::refused_as;
+use compared::bytes_hold;
+use compared::same_bytes;
 use scope::Question;
 use scope::WriteAnswer;
 

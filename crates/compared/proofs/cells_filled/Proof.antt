@@ -1,9 +1,9 @@
--- `vectors::compared::cells_filled` is safe and ends: what is left of the buffer falls. Assumes nothing.
+-- `compared::cells_filled` is safe and ends: what is left of the buffer falls. Assumes nothing.
 use Prim.Native.Nat.{_-_}
 use lib.ListN.{length}
 use borrow.Author.Needs.{needs}
-use Rattle.vectors.proofs.compared.cells_filled.Statement.{statement}
-use Rattle.vectors.proofs.compared.cells_filled.Tie as tie
+use Rattle.compared.proofs.cells_filled.Statement.{statement}
+use Rattle.compared.proofs.cells_filled.Tie as tie
 
 abbrev Inv-loop : tie.InvT-loop
 Inv-loop a n mark i₀ i = Unit

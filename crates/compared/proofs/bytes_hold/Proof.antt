@@ -1,9 +1,9 @@
--- `vectors::compared::bytes_hold` is safe and ends: what is left of the buffer falls. Assumes nothing.
+-- `compared::bytes_hold` is safe and ends: what is left of the buffer falls. Assumes nothing.
 use Prim.Native.Nat.{_-_}
 use lib.ListN.{length}
 use borrow.Author.Needs.{needs}
-use Rattle.vectors.proofs.compared.bytes_hold.Statement.{statement}
-use Rattle.vectors.proofs.compared.bytes_hold.Tie as tie
+use Rattle.compared.proofs.bytes_hold.Statement.{statement}
+use Rattle.compared.proofs.bytes_hold.Tie as tie
 
 abbrev Inv-loop : tie.InvT-loop
 Inv-loop a from mark i₀ i = Unit

@@ -1,8 +1,8 @@
--- `vectors::compared::same_bytes` is safe and ends: what is left to compare falls. Assumes nothing.
+-- `compared::same_bytes` is safe and ends: what is left to compare falls. Assumes nothing.
 use Prim.Native.Nat.{_-_}
 use borrow.Author.Needs.{needs}
-use Rattle.vectors.proofs.compared.same_bytes.Statement.{statement}
-use Rattle.vectors.proofs.compared.same_bytes.Tie as tie
+use Rattle.compared.proofs.same_bytes.Statement.{statement}
+use Rattle.compared.proofs.same_bytes.Tie as tie
 
 abbrev Inv-loop : tie.InvT-loop
 Inv-loop a b n i₀ i = Unit

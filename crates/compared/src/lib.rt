@@ -1,4 +1,4 @@
-// Comparing buffers with the numbers of a line, and seeing that marked cells are as they were.
+// Comparing buffers, and seeing that marked cells are as they were: what the programs that test the calls share.
 
 fn wide(cell: u16) -> u64 {
     cell as u64

@@ -1,9 +1,9 @@
--- `vectors::compared::numbers_filled` is safe and ends: what is left of the buffer falls. Assumes nothing.
+-- `compared::numbers_filled` is safe and ends: what is left of the buffer falls. Assumes nothing.
 use Prim.Native.Nat.{_-_}
 use lib.ListN.{length}
 use borrow.Author.Needs.{needs}
-use Rattle.vectors.proofs.compared.numbers_filled.Statement.{statement}
-use Rattle.vectors.proofs.compared.numbers_filled.Tie as tie
+use Rattle.compared.proofs.numbers_filled.Statement.{statement}
+use Rattle.compared.proofs.numbers_filled.Tie as tie
 
 abbrev Inv-loop : tie.InvT-loop
 Inv-loop a n mark i₀ i = Unit
