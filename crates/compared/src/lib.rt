@@ -1,5 +1,27 @@
 // Comparing buffers, and seeing that marked cells are as they were: what the programs that test the calls share.
 
+// What every cell of a key area, and of a path area or a table, holds before the call: no such entry and no such state is reached.
+pub const KEY_MARK: i32 = 1_717_986_918;
+
+pub const CELL_MARK: u16 = 42_405;
+
+// The most rows that are lent.
+pub const ROWS: usize = 2_000;
+
+// The most cells of a row: a mark and 64 letters.
+const WIDTH: usize = 65;
+
+// The cells of some rows; more than any area has where there are too many.
+pub fn cells_of(rows: usize, width: usize) -> usize {
+    if ROWS < rows {
+        return usize::MAX;
+    }
+    if WIDTH < width {
+        return usize::MAX;
+    }
+    rows * width
+}
+
 fn wide(cell: u16) -> u64 {
     cell as u64
 }

@@ -4,17 +4,6 @@ ghost use lib.ListN.{length};
 use crate::lines::word;
 use crate::numbers::size;
 
-// The most rows that a line lends.
-pub const ROWS: usize = 2_000;
-
-// The most cells of a row: a mark and 64 letters.
-const WIDTH: usize = 65;
-
-// What every cell of a key area, and of a path area or a table, holds before the call: no such entry and no such state is reached.
-pub const KEY_MARK: i32 = 1_717_986_918;
-
-pub const CELL_MARK: u16 = 42_405;
-
 // What a question's rows are like: the entries of a key row and the cells of a table's row.
 pub struct Rows {
     pub atoms: usize,
@@ -58,17 +47,6 @@ pub fn rows_of(bytes: &[u8]) -> Rows {
         atoms: atoms_of(&codes),
         width: width_of(question.n),
     }
-}
-
-// The cells of some rows; more than any area has where there are too many.
-pub fn cells_of(rows: usize, width: usize) -> usize {
-    if ROWS < rows {
-        return usize::MAX;
-    }
-    if WIDTH < width {
-        return usize::MAX;
-    }
-    rows * width
 }
 
 // Whether a line's words from k on are a verdict and its states.

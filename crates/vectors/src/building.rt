@@ -1,8 +1,5 @@
 // build BYTES R built STATES CELLS | no-room STATES
-use crate::areas::CELL_MARK;
-use crate::areas::KEY_MARK;
 use crate::areas::Rows;
-use crate::areas::cells_of;
 use crate::areas::rows_of;
 use crate::areas::says;
 use crate::lines::stretch;
@@ -11,7 +8,10 @@ use crate::numbers::hexed;
 use crate::numbers::numbers;
 use crate::numbers::size;
 use crate::reading::BYTES;
+use compared::CELL_MARK;
+use compared::KEY_MARK;
 use compared::cells_filled;
+use compared::cells_of;
 use compared::numbers_filled;
 use compared::same_cells;
 use scope::BuildAnswer;

@@ -1,8 +1,4 @@
 // decide BYTES R WORDROOM found STATES LETTERS | never STATES | no-room STATES | refused 8 STATES
-use crate::areas::CELL_MARK;
-use crate::areas::KEY_MARK;
-use crate::areas::ROWS;
-use crate::areas::cells_of;
 use crate::areas::rows_of;
 use crate::areas::says;
 use crate::lines::stretch;
@@ -13,8 +9,12 @@ use crate::numbers::small_numbers;
 use crate::reading::BYTES;
 use crate::spelling::LETTERS;
 use crate::writing::BYTE_MARK;
+use compared::CELL_MARK;
+use compared::KEY_MARK;
+use compared::ROWS;
 use compared::bytes_hold;
 use compared::cells_filled;
+use compared::cells_of;
 use compared::numbers_filled;
 use compared::same_bytes;
 use scope::DecideAnswer;

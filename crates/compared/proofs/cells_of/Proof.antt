@@ -1,10 +1,10 @@
--- `vectors::areas::cells_of` is safe: a product of at most 2,000 rows and 65 cells fits. Assumes nothing.
+-- `compared::cells_of` is safe: a product of at most 2,000 rows and 65 cells fits. Assumes nothing.
 use native.Mathlib.Omega.{arith}
 use native.Mathlib.Nat.{mul-le-mul}
 use Prim.Native.Nat.{_≤_, _*_}
 use borrow.Author.Needs.{needs}
-use Rattle.vectors.proofs.areas.cells_of.Statement.{statement}
-use Rattle.vectors.proofs.areas.cells_of.Tie as tie
+use Rattle.compared.proofs.cells_of.Statement.{statement}
+use Rattle.compared.proofs.cells_of.Tie as tie
 
 mul-result : tie.Need-mul-result
 mul-result c =
