@@ -1,0 +1,21 @@
+-- `cases::tuples::next_tuple` is safe and ends: what is left of the six falls. Assumes nothing.
+use Prim.Native.Nat.{_-_}
+use lib.ListN.{length}
+use mathlib.Core.Path.{_≡_}
+use borrow.Author.Needs.{needs}
+use Rattle.cases.proofs.tuples.next_tuple.Statement.{statement}
+use Rattle.cases.proofs.tuples.next_tuple.Tie as tie
+
+abbrev Inv-loop : tie.InvT-loop
+Inv-loop values₀ n largest j₀ values j = length values ≡ length values₀
+
+abbrev μ-loop : tie.MeasureT-loop
+μ-loop values₀ n largest j₀ values j = 6 - j
+
+pub next-tuple-spec : {M : Type 1} → statement M
+next-tuple-spec =
+    tie.close
+    (tie.spec Inv-loop μ-loop (λ c. search needs) (λ c. search needs) (λ c. search needs) (λ c. search needs)
+    (λ c. search needs) (λ c. search needs) (λ c. search needs) (λ c. search needs) (λ c. search needs)
+    (λ c. search needs) (λ c. search needs) (λ c. search needs) (λ c. search needs) (λ c. search needs)
+    (λ c. search needs))

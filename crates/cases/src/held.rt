@@ -1,0 +1,82 @@
+// The held question of a formula and its numbers, and whether two held questions are the same.
+ghost use Prim.Native.Nat.{_<_};
+use crate::sides::CELLS;
+use compared::same_bytes;
+use compared::same_numbers;
+use scope::Question;
+
+// A number by what stands on either side; no number has a million and more.
+fn signed(plus: u64, minus: u64) -> i32 {
+    if 1_000_000 < plus {
+        return 0;
+    }
+    if 1_000_000 < minus {
+        return 0;
+    }
+    plus as i32 - minus as i32
+}
+
+// The number in a column of an atom: what stands left, less what stands right.
+fn number_at(sides: &[u64; CELLS], atom: usize, column: usize) -> i32 {
+    if 7 < atom {
+        return 0;
+    }
+    if 6 < column {
+        return 0;
+    }
+    let at = 14 * atom + 2 * column;
+    signed(sides[at], sides[at + 1])
+}
+
+// A constant stands right of the sign, so its sides are the other way round.
+fn constant_at(sides: &[u64; CELLS], atom: usize) -> i32 {
+    if 7 < atom {
+        return 0;
+    }
+    let at = 14 * atom + 12;
+    signed(sides[at + 1], sides[at])
+}
+
+fn coefficients_of(sides: &[u64; CELLS]) -> [i32; 48] {
+    let mut all = [0i32; 48];
+    let mut c = 0;
+    while c < 48 {
+        all[c] = number_at(sides, c / 6, c % 6);
+        c += 1;
+    }
+    all
+}
+
+fn constants_of(sides: &[u64; CELLS]) -> [i32; 8] {
+    let mut all = [0i32; 8];
+    let mut i = 0;
+    while i < 8 {
+        all[i] = constant_at(sides, i);
+        i += 1;
+    }
+    all
+}
+
+pub fn question_of(n: u8, codes: [u8; 64], sides: &[u64; CELLS]) -> Question {
+    let coefficients = coefficients_of(sides);
+    let constants = constants_of(sides);
+    Question {
+        n,
+        codes,
+        coefficients,
+        constants,
+    }
+}
+
+pub fn same_question(a: Question, b: Question) -> bool {
+    let codes = a.codes;
+    let coefficients = a.coefficients;
+    let constants = a.constants;
+    let other_codes = b.codes;
+    let other_coefficients = b.coefficients;
+    let other_constants = b.constants;
+    a.n == b.n
+        && same_bytes(&codes, &other_codes, 64)
+        && same_numbers(&coefficients, &other_coefficients, 48)
+        && same_numbers(&constants, &other_constants, 8)
+}

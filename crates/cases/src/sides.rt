@@ -1,0 +1,88 @@
+// A question's numbers without signs. Row i of 14 cells is atom i's, two cells a column: what stands left and what stands right when
+// every term is on the side where it is added. Columns 0 to 5 are the variables', and the last one is the constant's.
+ghost use Prim.Native.Nat.{_≤_, _<_};
+ghost use lib.ListN.{length};
+use crate::chance::roll;
+
+pub const COLUMNS: usize = 7;
+
+// The cells of all rows.
+pub const CELLS: usize = 112;
+
+struct Sides {
+    left: u64,
+    right: u64,
+}
+
+// The largest number of a column, by the question's scale.
+fn most_of(column: usize, scale: u64) -> u64
+    ensures { λ r. ⌜ r ≤ 1000000 ⌝ }
+{
+    let constant = column == 6;
+    match scale {
+        0 => if constant { 2 } else { 1 },
+        1 => if constant { 9 } else { 2 },
+        2 => if constant { 40 } else { 7 },
+        _ => if constant { 1_000_000 } else { 4_096 },
+    }
+}
+
+// A number by chance, on one side.
+fn draw_sides(most: u64, seed: &mut u64) -> Sides
+    requires { ⌜ most ≤ 1000000 ⌝ }
+{
+    let number = roll(seed, 2 * most + 1);
+    if number <= most {
+        return Sides {
+            left: number,
+            right: 0,
+        };
+    }
+    Sides {
+        left: 0,
+        right: number - most,
+    }
+}
+
+fn draw_column(n: usize, column: usize, scale: u64, seed: &mut u64) -> Sides {
+    if column < n || column == 6 {
+        draw_sides(most_of(column, scale), seed)
+    } else {
+        Sides { left: 0, right: 0 }
+    }
+}
+
+// Draws the numbers of the first atoms in cells that hold zero.
+pub fn draw_numbers(n: usize, m: usize, scale: u64, seed: &mut u64, sides: &mut [u64; CELLS]) {
+    let mut c = 0;
+    while c < 56 {
+        if c / COLUMNS < m {
+            let both = draw_column(n, c % COLUMNS, scale, seed);
+            put_sides(sides, 2 * c, both);
+        }
+        c += 1;
+    }
+}
+
+fn put_sides(sides: &mut [u64; CELLS], at: usize, both: Sides)
+    requires { ⌜ at ≤ 110 ⌝ }
+{
+    let left = both.left;
+    let right = both.right;
+    sides[at] = left;
+    sides[at + 1] = right;
+}
+
+// The row of an atom; the empty one where there is no such atom.
+pub fn row_of<'a>(sides: &'a [u64], atom: usize) -> &'a [u64] {
+    if 7 < atom {
+        return &sides[..0];
+    }
+    let at = 14 * atom;
+    let end = at + 14;
+    if end <= sides.len() {
+        &sides[at..end]
+    } else {
+        &sides[..0]
+    }
+}
