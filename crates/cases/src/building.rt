@@ -1,52 +1,43 @@
-// Building in lent rows, and what its answer must be beside deciding's.
-use crate::deciding::Told;
+// Building in lent rows, and what it must make in fewer.
+use crate::cells::look_table;
+use crate::made::Made;
+use crate::made::made_of;
+use crate::made::refused;
 use crate::ordered::last_letter;
+use crate::rows::Looked;
 use compared::CELL_MARK;
 use compared::KEY_MARK;
 use compared::cells_filled;
 use compared::cells_of;
 use compared::numbers_filled;
-use scope::BuildAnswer;
 
 // The rows lent.
 pub const ROWS: usize = 100;
 
 const KEYS: usize = 8 * ROWS;
 
+const PATH: usize = 2 * ROWS;
+
 pub const TABLE: usize = 65 * ROWS;
 
-// The states, where a table was built.
-pub struct Made {
-    pub built: bool,
-    pub states: usize,
+pub struct Formed {
+    pub made: Made,
+    pub looked: Looked,
+}
+
+// The first cells of a table; none where there are not so many.
+pub fn front<'a>(table: &'a [u16], cells: usize) -> &'a [u16] {
+    if cells <= table.len() {
+        &table[0..cells]
+    } else {
+        &table[..0]
+    }
 }
 
 // The cells of a table's row.
 pub fn width_of(n: usize) -> usize {
     let last = last_letter(n) as usize;
     last + 2
-}
-
-// No call makes so many states.
-fn refused() -> Made {
-    Made {
-        built: false,
-        states: usize::MAX,
-    }
-}
-
-fn made_of(answer: BuildAnswer) -> Made {
-    match answer {
-        BuildAnswer::Built { states } => Made {
-            built: true,
-            states,
-        },
-        BuildAnswer::NoRoom { states } => Made {
-            built: false,
-            states,
-        },
-        BuildAnswer::Refused(_) => refused(),
-    }
 }
 
 // Whether exactly the rows of the answer's states are filled, those of the table only where it was built.
@@ -85,7 +76,56 @@ fn build_at(
     refused()
 }
 
-pub fn build_in(bytes: &[u8], n: usize, m: usize, rows: usize, table: &mut [u16]) -> Made {
+fn look_at(
+    codes: &[u8],
+    sides: &[u64],
+    bytes: &[u8],
+    m: usize,
+    width: usize,
+    keys: &mut [i32],
+    path: &mut [u16],
+    table: &mut [u16],
+) -> Formed {
+    let made = build_at(bytes, m, width, ROWS, keys, table);
+    let states = made.states;
+    if !made.built {
+        return Formed {
+            made,
+            looked: Looked {
+                rows: 0,
+                same: true,
+            },
+        };
+    }
+    let cells = front(table, cells_of(states, width));
+    let looked = look_table(codes, sides, keys, m, cells, width, path, states);
+    Formed { made, looked }
+}
+
+// Builds in all rows at the front of a marked table, and looks at every row.
+pub fn build_and_look(
+    codes: &[u8],
+    sides: &[u64],
+    bytes: &[u8],
+    n: usize,
+    m: usize,
+    table: &mut [u16],
+) -> Formed {
+    let mut keys = [KEY_MARK; KEYS];
+    let mut path = [0u16; PATH];
+    look_at(
+        codes,
+        sides,
+        bytes,
+        m,
+        width_of(n),
+        &mut keys,
+        &mut path,
+        table,
+    )
+}
+
+fn build_in(bytes: &[u8], n: usize, m: usize, rows: usize, table: &mut [u16]) -> Made {
     let mut keys = [KEY_MARK; KEYS];
     build_at(bytes, m, width_of(n), rows, &mut keys, table)
 }
@@ -98,22 +138,4 @@ pub fn same_in(bytes: &[u8], n: usize, m: usize, rows: usize, made: Made) -> boo
         return again.built && again.states == made.states;
     }
     !again.built && again.states == rows
-}
-
-// Whether the states built fit what deciding told: as many where nothing satisfies, and at least as many where a word is found.
-pub fn fits(made: Made, told: Told, bound: u64) -> bool {
-    if !made.built {
-        let rows = ROWS as u64;
-        return made.states == ROWS && rows < bound && (told.verdict != 2 || ROWS < told.states);
-    }
-    let states = made.states as u64;
-    if bound < states {
-        return false;
-    }
-    let verdict = told.verdict;
-    match verdict {
-        1 => told.states <= made.states,
-        2 => told.states == made.states,
-        _ => false,
-    }
 }

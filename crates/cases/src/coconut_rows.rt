@@ -1,8 +1,6 @@
 // What deciding the five coconut equations leaves in every key and path cell, worked by hand.
+use crate::entries::DEAD;
 use crate::spelled::digit;
-
-// The key cell of an entry that is dead.
-const DEAD: i32 = -2_147_483_648;
 
 // The start, and a state for every letter where the one before does not lead to the same: variable 1 does not count while variable 2's digit is 0.
 pub const STATES: usize = 49;

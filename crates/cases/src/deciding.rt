@@ -1,16 +1,16 @@
-// Deciding in lent rows, and what its answer must be beside the searches.
-use crate::ordered::Search;
-use crate::pieces::word_satisfies;
-use crate::spelled::spells;
-use crate::spelled::stretch;
-use crate::spelled::values_of;
-use crate::tuples::judge_says;
+// Deciding in lent rows, and what it must tell in fewer.
+use crate::answers::Told;
+use crate::answers::refused;
+use crate::answers::same_told;
+use crate::answers::told_in;
+use crate::answers::told_of;
+use crate::rows::Looked;
+use crate::rows::look;
 use compared::CELL_MARK;
 use compared::KEY_MARK;
 use compared::cells_filled;
 use compared::cells_of;
 use compared::numbers_filled;
-use scope::DecideAnswer;
 
 // The rows and the letters lent.
 pub const ROWS: usize = 600;
@@ -19,49 +19,9 @@ const KEYS: usize = 8 * ROWS;
 
 const PATH: usize = 2 * ROWS;
 
-// An answer by numbers. A verdict is 1 found, 2 never, 3 no room, 4 a word too long, and 0 refused.
-pub struct Told {
-    pub verdict: u8,
-    pub states: usize,
-    pub letters: usize,
-}
-
-fn refused() -> Told {
-    Told {
-        verdict: 0,
-        states: 0,
-        letters: 0,
-    }
-}
-
-fn told_of(answer: DecideAnswer) -> Told {
-    match answer {
-        DecideAnswer::Found { states, letters } => Told {
-            verdict: 1,
-            states,
-            letters,
-        },
-        DecideAnswer::Never { states } => Told {
-            verdict: 2,
-            states,
-            letters: 0,
-        },
-        DecideAnswer::NoRoom { states } => Told {
-            verdict: 3,
-            states,
-            letters: 0,
-        },
-        DecideAnswer::Short { states, letters } => Told {
-            verdict: 4,
-            states,
-            letters,
-        },
-        DecideAnswer::Refused(_) => refused(),
-    }
-}
-
-fn same_told(a: Told, b: Told) -> bool {
-    a.verdict == b.verdict && a.states == b.states && a.letters == b.letters
+pub struct Decided {
+    pub told: Told,
+    pub looked: Looked,
 }
 
 // Whether exactly the rows of the states told are filled.
@@ -95,22 +55,37 @@ fn decide_at(
     refused()
 }
 
-pub fn decide_in(bytes: &[u8], m: usize, rows: usize, word: &mut [u8]) -> Told {
+fn decide_in(bytes: &[u8], m: usize, rows: usize, word: &mut [u8]) -> Told {
     let mut keys = [KEY_MARK; KEYS];
     let mut path = [CELL_MARK; PATH];
     decide_at(bytes, m, rows, &mut keys, &mut path, word)
 }
 
-// What deciding in some rows must tell by what it told in as many or more.
-fn told_in(told: Told, rows: usize) -> Told {
-    if told.verdict != 3 && told.states <= rows {
-        return told;
-    }
-    Told {
-        verdict: 3,
-        states: rows,
-        letters: 0,
-    }
+fn look_at(
+    codes: &[u8],
+    sides: &[u64],
+    bytes: &[u8],
+    m: usize,
+    keys: &mut [i32],
+    path: &mut [u16],
+    word: &mut [u8],
+) -> Decided {
+    let told = decide_at(bytes, m, ROWS, keys, path, word);
+    let looked = look(codes, sides, keys, m, path, told.states);
+    Decided { told, looked }
+}
+
+// Decides in all rows, and looks at every row.
+pub fn decide_and_look(
+    codes: &[u8],
+    sides: &[u64],
+    bytes: &[u8],
+    m: usize,
+    word: &mut [u8],
+) -> Decided {
+    let mut keys = [KEY_MARK; KEYS];
+    let mut path = [CELL_MARK; PATH];
+    look_at(codes, sides, bytes, m, &mut keys, &mut path, word)
 }
 
 // Whether deciding in no more rows tells what follows.
@@ -140,26 +115,4 @@ pub fn short_by_one(bytes: &[u8], m: usize, told: Told) -> bool {
             letters,
         },
     )
-}
-
-fn judged(bytes: &[u8], n: usize, word: &[u8]) -> bool {
-    let values = values_of(word, n, 1);
-    spells(n, word) && judge_says(bytes, n, &values, true)
-}
-
-// Whether a word found satisfies, by plain sums and by the judge, and is the first that the search met.
-pub fn found_right(
-    codes: &[u8],
-    sides: &[u64],
-    n: usize,
-    bytes: &[u8],
-    word: &[u8],
-    first: &[u8],
-    search: Search,
-) -> bool {
-    let len = search.len;
-    if search.any && !check::same(word, stretch(first, 0, len)) {
-        return false;
-    }
-    word_satisfies(codes, sides, n, word) && (40 < word.len() || judged(bytes, n, word))
 }

@@ -1,7 +1,7 @@
 // The cases of document 01 that are worked by hand and not proved: the coconuts, no bytes at all, and no rows.
+use crate::beside::LETTER_MARK;
 use crate::coconuts::coconuts;
 use crate::coconuts::coconuts_right;
-use crate::comparing::LETTER_MARK;
 use crate::questions::written;
 use crate::spelled::stretch;
 use crate::tally::say;

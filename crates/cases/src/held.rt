@@ -6,7 +6,7 @@ use compared::same_numbers;
 use scope::Question;
 
 // A number by what stands on either side; no number has a million and more.
-fn signed(plus: u64, minus: u64) -> i32 {
+pub fn signed(plus: u64, minus: u64) -> i32 {
     if 1_000_000 < plus {
         return 0;
     }

@@ -31,7 +31,7 @@ pub fn times(a: u64, x: u64) -> u64 {
     a * x
 }
 
-fn plus(a: u64, b: u64) -> u64 {
+pub fn plus(a: u64, b: u64) -> u64 {
     if u64::MAX - a < b {
         return u64::MAX;
     }

@@ -1,6 +1,6 @@
 // The questions by chance, one by one.
+use crate::beside::LETTER_MARK;
 use crate::chance::roll;
-use crate::comparing::LETTER_MARK;
 use crate::comparing::compare_again;
 use crate::comparing::compare_decided;
 use crate::deciding::ROWS;
@@ -67,7 +67,7 @@ fn ask(number: u64, n: u8, m: usize, seed: &mut u64, counts: &mut [u64]) {
     let mut codes = [0u8; 64];
     let mut sides = [0u64; CELLS];
     let nodes = draw_formula(m, seed, &mut codes);
-    let scale = roll(seed, 4);
+    let scale = roll(seed, 7);
     draw_numbers(n as usize, m, scale, seed, &mut sides);
     let question = question_of(n, codes, &sides);
     let mut bytes = [0u8; BYTES];

@@ -20,9 +20,9 @@ fn most_of(column: usize, scale: u64) -> u64
 {
     let constant = column == 6;
     match scale {
-        0 => if constant { 2 } else { 1 },
-        1 => if constant { 9 } else { 2 },
-        2 => if constant { 40 } else { 7 },
+        0 | 1 | 2 => if constant { 2 } else { 1 },
+        3 | 4 => if constant { 9 } else { 2 },
+        5 => if constant { 40 } else { 7 },
         _ => if constant { 1_000_000 } else { 4_096 },
     }
 }

@@ -16,7 +16,7 @@ pub fn digit(letter: u8, j: usize) -> bool {
     }
 }
 
-fn doubled(v: u64, bit: bool) -> u64 {
+pub fn doubled(v: u64, bit: bool) -> u64 {
     let high = v % 549_755_813_888 * 2;
     if bit { high + 1 } else { high }
 }

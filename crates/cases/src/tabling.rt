@@ -1,13 +1,15 @@
 // What is compared of a question whose table is built.
+use crate::answers::Told;
 use crate::bound::bound_of;
-use crate::building::Made;
-use crate::building::ROWS;
+use crate::building::Formed;
 use crate::building::TABLE;
-use crate::building::build_in;
-use crate::building::fits;
+use crate::building::build_and_look;
+use crate::building::front;
 use crate::building::same_in;
 use crate::building::width_of;
-use crate::deciding::Told;
+use crate::made::Made;
+use crate::made::fits;
+use crate::rows::Looked;
 use crate::running::Runs;
 use crate::running::run_long;
 use crate::running::run_short;
@@ -18,7 +20,8 @@ use crate::tally::expect;
 use compared::CELL_MARK;
 use compared::cells_of;
 
-fn count_made(made: Made, counts: &mut [u64]) {
+fn count_made(made: Made, looked: Looked, counts: &mut [u64]) {
+    add(counts, tally::TABLE_ROWS, looked.rows);
     if made.built {
         add(counts, tally::BUILT, 1);
     } else {
@@ -26,19 +29,18 @@ fn count_made(made: Made, counts: &mut [u64]) {
     }
 }
 
+fn say_built(number: u64, formed: Formed, right: bool, same: bool, counts: &mut [u64]) {
+    let looked = formed.looked;
+    count_made(formed.made, looked, counts);
+    expect(looked.same, number, b"a row of the table", counts);
+    expect(right, number, b"the states built", counts);
+    expect(same, number, b"built in fewer rows", counts);
+}
+
 fn compare_runs(number: u64, runs: Runs, counts: &mut [u64]) {
     add(counts, tally::RUNS, runs.words);
     add(counts, tally::YES, runs.yes);
     expect(runs.same, number, b"a table run", counts);
-}
-
-// The rows that were built of a table.
-fn rows_of<'a>(table: &'a [u16], cells: usize) -> &'a [u16] {
-    if cells <= table.len() {
-        &table[0..cells]
-    } else {
-        &table[..0]
-    }
 }
 
 // Whether building in the states made and in one less makes what follows.
@@ -84,14 +86,13 @@ pub fn compare_built(
     counts: &mut [u64],
 ) {
     let mut table = [CELL_MARK; TABLE];
-    let made = build_in(bytes, n, m, ROWS, &mut table);
-    count_made(made, counts);
+    let formed = build_and_look(codes, sides, bytes, n, m, &mut table);
+    let made = formed.made;
     let right = fits(made, told, bound_of(codes, sides));
-    expect(right, number, b"the states built", counts);
     let same = same_again(bytes, n, m, made);
-    expect(same, number, b"built in fewer rows", counts);
+    say_built(number, formed, right, same, counts);
     if made.built {
-        let rows = rows_of(&table, cells_of(made.states, width_of(n)));
+        let rows = front(&table, cells_of(made.states, width_of(n)));
         compare_table(number, codes, sides, n, rows, found, told, seed, counts);
     }
 }

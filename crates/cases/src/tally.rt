@@ -1,7 +1,7 @@
 // What is counted, and what is said where something differs.
 use libc::STDOUT_FILENO;
 
-pub const KINDS: usize = 14;
+pub const KINDS: usize = 16;
 
 pub const QUESTIONS: usize = 0;
 
@@ -29,7 +29,11 @@ pub const YES: usize = 11;
 
 pub const AGAIN: usize = 12;
 
-pub const DIFFERENCES: usize = 13;
+pub const ROWS: usize = 13;
+
+pub const TABLE_ROWS: usize = 14;
+
+pub const DIFFERENCES: usize = 15;
 
 fn sum(a: u64, b: u64) -> u64 {
     if u64::MAX - a < b {
@@ -81,6 +85,7 @@ pub fn print_counts(counts: &[u64]) {
     print_kind(b"decided found ", FOUND, counts);
     print_kind(b"decided never ", NEVER, counts);
     print_kind(b"decided no room ", NO_ROOM, counts);
+    print_kind(b"rows looked at ", ROWS, counts);
     print_kind(b"decided again in fewer rows or letters ", AGAIN, counts);
     print_kind(b"tuples tried ", TUPLES, counts);
     print_kind(b"tuples judged ", JUDGED, counts);
@@ -88,6 +93,7 @@ pub fn print_counts(counts: &[u64]) {
     print_kind(b"first words that satisfy ", FIRST, counts);
     print_kind(b"tables built ", BUILT, counts);
     print_kind(b"tables not built for want of room ", NOT_BUILT, counts);
+    print_kind(b"table rows looked at ", TABLE_ROWS, counts);
     print_kind(b"words run ", RUNS, counts);
     print_kind(b"words run that satisfy ", YES, counts);
     print_kind(b"differences ", DIFFERENCES, counts);

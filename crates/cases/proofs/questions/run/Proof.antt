@@ -7,7 +7,7 @@ use Rattle.cases.proofs.questions.run.Statement.{statement}
 use Rattle.cases.proofs.questions.run.Tie as tie
 
 abbrev Inv-loop : tie.InvT-loop
-Inv-loop counts₀ seed₀ number₀ counts seed number = length counts ≡ 14
+Inv-loop counts₀ seed₀ number₀ counts seed number = length counts ≡ 16
 
 abbrev μ-loop : tie.MeasureT-loop
 μ-loop counts₀ seed₀ number₀ counts seed number = 960 - number
