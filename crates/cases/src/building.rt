@@ -12,7 +12,7 @@ use compared::cells_of;
 use compared::numbers_filled;
 
 // The rows lent.
-pub const ROWS: usize = 100;
+pub const ROWS: usize = 600;
 
 const KEYS: usize = 8 * ROWS;
 

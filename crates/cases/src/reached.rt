@@ -6,7 +6,8 @@ use crate::spelled::doubled;
 // 2 to the letters of a word that is spelled at most.
 const MOST: u64 = 549_755_813_888;
 
-// The values and 2 to the letters; sound where the path leads down to the start, or to where the word is too long, and whole where it is not.
+// The values and 2 to the letters: sound where every row of the path leads to an earlier one, and whole where they lead to the start
+// by no more letters than are spelled.
 pub struct Reached {
     pub sound: bool,
     pub whole: bool,
@@ -14,7 +15,7 @@ pub struct Reached {
     pub power: u64,
 }
 
-// A row of the path area, or that there is none, or that it has no letter.
+// A row of the path area, where it is there and its letter is one.
 pub struct Edge {
     pub there: bool,
     pub from: usize,
