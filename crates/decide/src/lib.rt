@@ -115,7 +115,7 @@ fn explore_question(
     if accepts(codes, kinds, m, keys, 0) {
         return Explored::Found { states: 1 };
     }
-    number_rows(codes, kinds, m, &sums, letters(n), keys, path, rows, true)
+    number_rows(codes, kinds, m, &sums, letters(n), keys, path, rows)
 }
 
 // Decides a question that was accepted, which is handed over by its parts.

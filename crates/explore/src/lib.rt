@@ -318,7 +318,7 @@ pub fn resume(
     )
 }
 
-// Explores from the start, with a small index.
+// Deciding: explores from the start, with a small index.
 fn explore_few(
     codes: &[u8; 64],
     kinds: &[u8; 8],
@@ -328,12 +328,11 @@ fn explore_few(
     keys: &mut [i32],
     path: &mut [u16],
     rows: usize,
-    deciding: bool,
 ) -> Stand
     requires { ⌜ Task (now codes) m (now sums) letters ⌝ }
-    requires { ⌜ Stands (cellMachine (now codes) (now kinds) m (now sums) letters (take m (now keys))) m rows deciding (now keys) (now path) 1 0 0 ⌝ }
+    requires { ⌜ Stands (cellMachine (now codes) (now kinds) m (now sums) letters (take m (now keys))) m rows true (now keys) (now path) 1 0 0 ⌝ }
     requires { ⌜ rows ≤ 256 ⌝ }
-    ensures { λ r. ⌜ Ended (cellMachine (now (codes .entry)) (now (kinds .entry)) m (now (sums .entry)) letters (take m (now (keys .entry)))) m rows deciding (now (keys .entry)) (now (path .entry)) 1 (now (keys .exit)) (now (path .exit)) r ⌝ }
+    ensures { λ r. ⌜ Ended (cellMachine (now (codes .entry)) (now (kinds .entry)) m (now (sums .entry)) letters (take m (now (keys .entry)))) m rows true (now (keys .entry)) (now (path .entry)) 1 (now (keys .exit)) (now (path .exit)) r ⌝ }
 {
     let mut head = [NONE; FEW];
     let mut next = [NONE; FEW];
@@ -348,14 +347,14 @@ fn explore_few(
         &mut head,
         &mut next,
         rows,
-        deciding,
+        true,
         1,
         0,
         0,
     )
 }
 
-// Explores on from where it stands, with a large one.
+// Deciding: explores on from where it stands, with a large one.
 fn explore_many(
     codes: &[u8; 64],
     kinds: &[u8; 8],
@@ -365,14 +364,13 @@ fn explore_many(
     keys: &mut [i32],
     path: &mut [u16],
     rows: usize,
-    deciding: bool,
     count: usize,
     row: usize,
     letter: usize,
 ) -> Stand
     requires { ⌜ Task (now codes) m (now sums) letters ⌝ }
-    requires { ⌜ Stands (cellMachine (now codes) (now kinds) m (now sums) letters (take m (now keys))) m rows deciding (now keys) (now path) count row letter ⌝ }
-    ensures { λ r. ⌜ Ended (cellMachine (now (codes .entry)) (now (kinds .entry)) m (now (sums .entry)) letters (take m (now (keys .entry)))) m rows deciding (now (keys .entry)) (now (path .entry)) count (now (keys .exit)) (now (path .exit)) r ⌝ }
+    requires { ⌜ Stands (cellMachine (now codes) (now kinds) m (now sums) letters (take m (now keys))) m rows true (now keys) (now path) count row letter ⌝ }
+    ensures { λ r. ⌜ Ended (cellMachine (now (codes .entry)) (now (kinds .entry)) m (now (sums .entry)) letters (take m (now (keys .entry)))) m rows true (now (keys .entry)) (now (path .entry)) count (now (keys .exit)) (now (path .exit)) r ⌝ }
 {
     let mut head = [NONE; MANY];
     let mut next = [NONE; MANY];
@@ -387,7 +385,7 @@ fn explore_many(
         &mut head,
         &mut next,
         rows,
-        deciding,
+        true,
         count,
         row,
         letter,
@@ -400,8 +398,8 @@ pub fn least(a: usize, b: usize) -> usize
     if a < b { a } else { b }
 }
 
-// Numbers the states from the start's, which is row 0 already, in at most so many rows. Deciding, it writes the path area and stops at the
-// first state that accepts, where the start does not; building, it leaves the path area alone and goes through all states.
+// Deciding: numbers the states from the start's, which is row 0 already and does not accept, in at most so many rows, writes the path area, and
+// stops at the first state that accepts.
 pub fn number_rows(
     codes: &[u8; 64],
     kinds: &[u8; 8],
@@ -411,14 +409,13 @@ pub fn number_rows(
     keys: &mut [i32],
     path: &mut [u16],
     rows: usize,
-    deciding: bool,
 ) -> Explored
     requires { ⌜ Task (now codes) m (now sums) letters ⌝ }
-    requires { ⌜ Ready (cellMachine (now codes) (now kinds) m (now sums) letters (take m (now keys))) m rows deciding (now keys) (now path) ⌝ }
-    ensures { λ r. ⌜ Numbered (cellMachine (now (codes .entry)) (now (kinds .entry)) m (now (sums .entry)) letters (take m (now (keys .entry)))) rows deciding (now (keys .entry)) (now (path .entry)) (now (keys .exit)) (now (path .exit)) r ⌝ }
+    requires { ⌜ Ready (cellMachine (now codes) (now kinds) m (now sums) letters (take m (now keys))) m rows true (now keys) (now path) ⌝ }
+    ensures { λ r. ⌜ Numbered (cellMachine (now (codes .entry)) (now (kinds .entry)) m (now (sums .entry)) letters (take m (now (keys .entry)))) rows true (now (keys .entry)) (now (path .entry)) (now (keys .exit)) (now (path .exit)) r ⌝ }
 {
     let few = least(rows, FEW);
-    let s = explore_few(codes, kinds, m, sums, letters, keys, path, few, deciding);
+    let s = explore_few(codes, kinds, m, sums, letters, keys, path, few);
     if s.lacks(few, rows) {
         let t = explore_many(
             codes,
@@ -429,7 +426,6 @@ pub fn number_rows(
             keys,
             path,
             rows,
-            deciding,
             s.count,
             s.row,
             s.letter,

@@ -1,4 +1,5 @@
 -- `explore::number_rows` meets its contract: few rows first, which are all, or give way to all where they are full. Assumes nothing.
+use mathlib.Core.Bool.{true}
 use mathlib.Core.Path.{refl, sym}
 use native.Mathlib.Nat.{le-refl}
 use native.Mathlib.Omega.{arith}
@@ -56,7 +57,7 @@ returns c =
     rw (c .explored .ensures)
     (ended-numbered
     (cellMachine (s .args .codes .now) (s .args .kinds .now) (s .args .m) (s .args .sums .now) (s .args .letters) (take (s .args .m) (s .args .keys .now)))
-    (runs s .lawful) (s .args .m) (s .args .rows) (s .args .deciding) (s .args .keys .now) (s .args .path .now)
+    (runs s .lawful) (s .args .m) (s .args .rows) true (s .args .keys .now) (s .args .path .now)
     (omega (arith, many .kept .1 .1 .1 .1 .1 .0, few .kept .1 .1 .1 .1 .1 .0, r .keys-room))
     (omega (arith, many .kept .1 .1 .1 .1 .1 .1 .0, few .kept .1 .1 .1 .1 .1 .1 .0, r .path-room))
     (le-refl (s .args .rows)) (ended-after (few .ensures) (rw (start-stays (runs s) stands) at (many .ensures))) (λ _ _. refl))
@@ -70,7 +71,7 @@ returns-2 c =
     rw (c .explored2 .ensures)
     (ended-numbered
     (cellMachine (s .args .codes .now) (s .args .kinds .now) (s .args .m) (s .args .sums .now) (s .args .letters) (take (s .args .m) (s .args .keys .now)))
-    (runs s .lawful) (s .args .m) (s .args .rows) (s .args .deciding) (s .args .keys .now) (s .args .path .now)
+    (runs s .lawful) (s .args .m) (s .args .rows) true (s .args .keys .now) (s .args .path .now)
     (omega (arith, few .kept .1 .1 .1 .1 .1 .0, r .keys-room))
     (omega (arith, few .kept .1 .1 .1 .1 .1 .1 .0, r .path-room))
     (omega (arith, f .ensures)) (few .ensures)
