@@ -66,20 +66,20 @@ module _ (b : List ℕ) (n i : ℕ) where
 -- the coefficients from i on are still to be put
 pub record PutFrom (l₀ l : List ℤ) (cell : ℕ) (b : List ℕ) (n i : ℕ) : Type 0 where
   pub within : i ≤ n
-  pub full : length l ≡ 48
+  pub same : length l ≡ length l₀
   pub rest : sets l (cell + i) (numbersAt (n - i) b (4 * i)) ≡ sets l₀ cell (numbersAt n b 0)
 
 module _ (l₀ l : List ℤ) (cell : ℕ) (b : List ℕ) (n i : ℕ) where
-  pub put-start : length l₀ ≡ 48 → PutFrom l₀ l₀ cell b n 0
-  put-start h = let z : cell + 0 ≡ cell = omega arith in let y : n - 0 ≡ n = omega arith in
-      record { within = omega arith; full = h; rest = rw (z, y) }
+  pub put-start : PutFrom l₀ l₀ cell b n 0
+  put-start = let z : cell + 0 ≡ cell = omega arith in let y : n - 0 ≡ n = omega arith in
+      record { within = omega arith; same = refl; rest = rw (z, y) }
 
   pub put-again : (v : ℤ) → v ≡ numberAt b (4 * i) → i < n → PutFrom l₀ l cell b n i → PutFrom l₀ (set l (cell + i) v) cell b n (i + 1)
   put-again v e h inv =
       let d : cell + (i + 1) ≡ suc (cell + i) = omega arith in
       record {
         within = omega arith;
-        full = length-set l (cell + i) v ∙ inv .full;
+        same = length-set l (cell + i) v ∙ inv .same;
         rest = rw (d, e) (rw (numbers-next b n i h) at (inv .rest));
       }
 

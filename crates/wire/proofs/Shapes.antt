@@ -8,8 +8,7 @@ use native.Mathlib.Numerals.{add-one}
 use lib.ListN.{length, set, drop, take, length-set}
 use lib.Seq.{set-split, drop-at, length-take-le}
 use Rattle.scope.specs.Wire as wire
-use Rattle.wire.specs.declared.shape.Shape.{Shape}
-use Rattle.wire.specs.Formula.{Open, Grown, depthOf}
+use Rattle.wire.specs.Formula.{Known, Open, Grown, depthOf}
 use Rattle.wire.proofs.Codes.{atom-code, two-code}
 
 -- a store at i is what stands first from i on
@@ -24,7 +23,7 @@ two-due l i v g h =
 same-shape : (n a b : ℕ) (d e : List ℕ) → a ≡ b → d ≡ e → _≡_ {A = wire.Shape} (record { nodes = n; atoms = a; due = d }) (record { nodes = n; atoms = b; due = e })
 same-shape n a b d e p q = λ i. record { nodes = n; atoms = p i; due = q i }
 
-module _ (s : Shape) (code : ℕ) (h : Open s code) where
+module _ (s : Known) (code : ℕ) (h : Open s code) where
   pub grown-atom : code ≤ 2 → Grown s code (record { nodes = s .nodes + 1; atoms = s .atoms + 1; top = s .top + 1; due = s .due })
   unfolding wire.grown
   grown-atom k = let e = atom-code code (h .node) k in record {

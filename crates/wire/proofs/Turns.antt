@@ -16,23 +16,22 @@ use Rattle.scope.specs.Refusals.{firstRefusal, Progress, stopped, going, ended,
 use Rattle.scope.specs.Wire as wire
 use Rattle.scope.specs.Wire.{Reading, Ended, numberAt, numbersAt, bodyLength, noted, nodeRead, endRead, dueRead, recordRead}
 use Rattle.theory.specs.Checks.{onward-stopped}
-use Rattle.wire.specs.declared.shape.Shape.{Shape}
 use Rattle.wire.specs.declared.reading.NodeAnswer.{NodeAnswer}
-use Rattle.wire.specs.Steps.{partOf, nodeHere, nodeAnswer, notedBody}
+use Rattle.wire.specs.Steps.{partOf, nodeHere, nodeAnswer, Full, notedBody}
 use Rattle.wire.specs.Answers.{endChecks, endFrom}
-use Rattle.wire.specs.Formula.{Sound, Grown, Unread, dueOf, shapeOf, depthOf, laterOf}
+use Rattle.wire.specs.Formula.{Known, Sound, Grown, Unread, dueOf, shapeOf, depthOf, laterOf}
 use Rattle.wire.proofs.Stretches.{part-number, part-numbers}
 use Rattle.wire.proofs.Nodes.{NodeKnown, NodeTaken, node-taken, node-refused, atom-size}
 
-abbrev pub readingOf : Question → Shape → ℕ → Reading
+abbrev pub readingOf : Question → Known → ℕ → Reading
 readingOf q s p = record { question = q; shape = shapeOf s; place = p }
 
 -- ---- what is due
 
-pub due-first : (s : Shape) → Sound s → s .top < 66 → dueOf s ≡ depthOf s ∷ laterOf s
+pub due-first : (s : Known) → Sound s → s .top < 66 → dueOf s ≡ depthOf s ∷ laterOf s
 due-first s h t = rw add-one (drop-cons (s .due) (s .top) 0 (omega (arith, h .full)))
 
-pub due-none : (s : Shape) → Sound s → 66 ≤ s .top → dueOf s ≡ []
+pub due-none : (s : Known) → Sound s → 66 ≤ s .top → dueOf s ≡ []
 due-none s h t = let l : length (s .due) ≤ s .top = omega (arith, h .full) in drop-of-length-le (s .due) l
 
 -- ---- steps onward
@@ -67,7 +66,7 @@ module _ (b : List ℕ) (q : Question) (nodes atoms : ℕ) (due : List ℕ) (p c
       ≡ notedBody q code nodes atoms (partOf b (p + 4) len)
   noted-here = rw (sym (k .node)) (noted-same (isAtom (nodeOf code)) (nodeOf code) _ _ _ _ nodes atoms due q at-body)
 
-pub grown-nodes : (s : Shape) (code : ℕ) (r : Shape) → Grown s code r → r .nodes ≡ s .nodes + 1
+pub grown-nodes : (s : Known) (code : ℕ) (r : Known) → Grown s code r → r .nodes ≡ s .nodes + 1
 unfolding wire.grown
 grown-nodes s code r g = ap (λ (w : wire.Shape). w .nodes) (g .shape)
 
@@ -81,7 +80,7 @@ noted-n q code nodes atoms body = noted-by (isAtom (nodeOf code)) (nodeOf code) 
 
 -- ---- a turn
 
-module _ (b : List ℕ) (q : Question) (s : Shape) (p : ℕ) (h : Sound s) where
+module _ (b : List ℕ) (q : Question) (s : Known) (p : ℕ) (h : Sound s) where
   turn-end : 66 ≤ s .top → recordRead b (readingOf q s p) ≡ endFrom b p q
   unfolding recordRead endRead
   turn-end t = ap (λ (l : List ℕ). dueRead b l (readingOf q s p)) (due-none s h t)
@@ -116,13 +115,14 @@ module _ (b : List ℕ) (q : Question) (s : Shape) (p : ℕ) (h : Sound s) where
 
 -- ---- what is still to be read
 
-pub record Left (b : List ℕ) (n : ℕ) (q₀ : Question) (s₀ : Shape) (p₀ : ℕ) (q : Question) (s : Shape) (p : ℕ) : Type 0 where
+pub record Left (b : List ℕ) (n : ℕ) (q₀ : Question) (s₀ : Known) (p₀ : ℕ) (q : Question) (s : Known) (p : ℕ) : Type 0 where
   pub sound : Sound s
   pub within : p ≤ length b
   pub variables : q .n ≡ n
+  pub full : Full q
   pub rest : onward (65 - s .nodes) (recordRead b) (going (readingOf q s p)) ≡ onward 65 (recordRead b) (going (readingOf q₀ s₀ p₀))
 
-module _ {b : List ℕ} {n : ℕ} {q₀ : Question} {s₀ : Shape} {p₀ : ℕ} {q : Question} {s : Shape} {p : ℕ} (left : Left b n q₀ s₀ p₀ q s p) where
+module _ {b : List ℕ} {n : ℕ} {q₀ : Question} {s₀ : Known} {p₀ : ℕ} {q : Question} {s : Known} {p : ℕ} (left : Left b n q₀ s₀ p₀ q s p) where
   abbrev whole : Progress Reading Ended
   whole = onward 65 (recordRead b) (going (readingOf q₀ s₀ p₀))
 
@@ -143,9 +143,9 @@ module _ {b : List ℕ} {n : ℕ} {q₀ : Question} {s₀ : Shape} {p₀ : ℕ} 
       pub left-taken : NodeTaken b p (q .n) (s .nodes) (s .atoms) (depthOf s) code len
       left-taken = node-taken b p (q .n) (s .nodes) (s .atoms) (depthOf s) code len (rw (left .variables) e)
 
-      pub left-again : (q′ : Question) (s′ : Shape) → q′ ≡ notedBody q code (s .nodes) (s .atoms) (partOf b (p + 4) len) → Grown s code s′
+      pub left-again : (q′ : Question) (s′ : Known) → q′ ≡ notedBody q code (s .nodes) (s .atoms) (partOf b (p + 4) len) → Full q′ → Grown s code s′
           → Left b n q₀ s₀ p₀ q′ s′ (p + 4 + len)
-      left-again q′ s′ f g =
+      left-again q′ s′ f l g =
           let k = left-taken in
           let m : s′ .nodes ≡ s .nodes + 1 = grown-nodes s code s′ g in
           let d : 65 - s′ .nodes ≡ 64 - s .nodes = omega arith in
@@ -153,11 +153,12 @@ module _ {b : List ℕ} {n : ℕ} {q₀ : Question} {s₀ : Shape} {p₀ : ℕ} 
             sound = g .sound;
             within = k .known .within;
             variables = ap (λ (x : Question). x .n) f ∙ noted-n q code (s .nodes) (s .atoms) (partOf b (p + 4) len) ∙ left .variables;
+            full = l;
             rest = rw d (ap (onward (64 - s .nodes) (recordRead b)) ((λ i. going (record { question = f i; shape = g .shape i; place = p + 4 + len })) ∙ sym (turn-taken b q s p (left .sound) t code len k))
                 ∙ sym first);
           }
 
-pub left-start : (b : List ℕ) (n : ℕ) (q : Question) (s : Shape) (p : ℕ) → Unread s → p ≤ length b → q .n ≡ n → Left b n q s p q s p
-left-start b n q s p u h e =
+pub left-start : (b : List ℕ) (n : ℕ) (q : Question) (s : Known) (p : ℕ) → Unread s → p ≤ length b → q .n ≡ n → Full q → Left b n q s p q s p
+left-start b n q s p u h e l =
     let m : s .nodes ≡ 0 = ap (λ (w : wire.Shape). w .nodes) (u .shape) in
-    record { sound = u .sound; within = h; variables = e; rest = rw m }
+    record { sound = u .sound; within = h; variables = e; full = l; rest = rw m }

@@ -12,16 +12,15 @@ use Rattle.scope.specs.Question.{Node, nodeOf, isAtom}
 use Rattle.scope.specs.Refusals.{Progress, stopped, going, ended, orStopped, onward}
 use Rattle.scope.specs.Wire as wire
 use Rattle.scope.specs.Writing.{nodeBytes, Walk, nodeWritten, dueWritten, partWritten}
-use Rattle.wire.specs.declared.shape.Shape.{Shape}
 use Rattle.wire.specs.declared.reading.NodeAnswer.{NodeAnswer}
 use Rattle.wire.specs.Writes.{codeNode, atomsTo, bytesTo, codeAnswer, FormulaIs, walkAt}
-use Rattle.wire.specs.Formula.{Sound, Grown, Unread, shapeOf, depthOf, laterOf}
+use Rattle.wire.specs.Formula.{Known, Sound, Grown, Unread, shapeOf, depthOf, laterOf}
 use Rattle.wire.proofs.Turns.{due-first, due-none, onward-first, grown-nodes}
 use Rattle.theory.specs.Checks.{onward-stopped, onward-ended}
 use Rattle.wire.proofs.Checking.{CodeTaken, code-taken, code-refused}
 use Rattle.wire.proofs.Lengths.{body-small, node-length, bytes-head, bytes-next, atoms-next}
 
-abbrev pub walkOf : Question → Shape → Walk
+abbrev pub walkOf : Question → Known → Walk
 walkOf q s = record { shape = shapeOf s; bytes = bytesTo q (s .nodes) }
 
 abbrev start : Question → Progress Walk Walk
@@ -29,7 +28,7 @@ start q = going (record { shape = wire.unread; bytes = bytesTo q 0 })
 
 -- ---- a turn
 
-module _ (q : Question) (s : Shape) (h : Sound s) where
+module _ (q : Question) (s : Known) (h : Sound s) where
   turn-end : 66 ≤ s .top → partWritten q (walkOf q s) ≡ ended (walkOf q s)
   unfolding partWritten
   turn-end t = ap (λ (l : List ℕ). dueWritten q l (walkOf q s)) (due-none s h t)
@@ -50,7 +49,7 @@ module _ (q : Question) (s : Shape) (h : Sound s) where
 
 -- ---- what is still to be walked
 
-pub record Walking (q : Question) (s : Shape) (len : ℕ) : Type 0 where
+pub record Walking (q : Question) (s : Known) (len : ℕ) : Type 0 where
   pub sound : Sound s
   pub few : s .atoms ≤ 8
   pub atomsIs : s .atoms ≡ atomsTo q (s .nodes)
@@ -58,7 +57,7 @@ pub record Walking (q : Question) (s : Shape) (len : ℕ) : Type 0 where
   pub short : len ≤ 5 + 32 * s .nodes
   pub rest : onward (65 - s .nodes) (partWritten q) (going (walkOf q s)) ≡ onward 65 (partWritten q) (start q)
 
-grown-atoms : (s : Shape) (code : ℕ) (r : Shape) → Grown s code r → r .atoms ≡ s .atoms + cond (isAtom (nodeOf code)) 1 0
+grown-atoms : (s : Known) (code : ℕ) (r : Known) → Grown s code r → r .atoms ≡ s .atoms + cond (isAtom (nodeOf code)) 1 0
 unfolding wire.grown
 grown-atoms s code r g = ap (λ (w : wire.Shape). w .atoms) (g .shape)
 
@@ -70,7 +69,7 @@ atoms-zero : (q : Question) → atomsTo q 0 ≡ 0
 unfolding atomsTo
 atoms-zero q = refl
 
-pub walking-start : (q : Question) (s : Shape) → Unread s → Walking q s 5
+pub walking-start : (q : Question) (s : Known) → Unread s → Walking q s 5
 walking-start q s u =
     let m : s .nodes ≡ 0 = ap (λ (w : wire.Shape). w .nodes) (u .shape) in
     let a : s .atoms ≡ 0 = ap (λ (w : wire.Shape). w .atoms) (u .shape) in
@@ -84,7 +83,7 @@ walking-start q s u =
           ∙ (λ i. onward 65 (partWritten q) (going (record { shape = u .shape i; bytes = bytesTo q (m i) })));
     }
 
-module _ {q : Question} {s : Shape} {len : ℕ} (w : Walking q s len) where
+module _ {q : Question} {s : Known} {len : ℕ} (w : Walking q s len) where
   abbrev whole : Progress Walk Walk
   whole = onward 65 (partWritten q) (start q)
 
@@ -105,7 +104,7 @@ module _ {q : Question} {s : Shape} {len : ℕ} (w : Walking q s len) where
     walking-refused r e = first ∙ ap (onward (64 - s .nodes) (partWritten q)) (turn-refused q s (w .sound) t r e) ∙ onward-stopped (64 - s .nodes) (partWritten q) r
 
     pub walking-again : length (q .coefficients) ≡ 48 → q .n ≤ 6 → (code size : ℕ) → codeAnswer q (s .nodes) (s .atoms) (depthOf s) ≡ NodeAnswer.Node code size
-        → (r : Shape) → Grown s code r → Walking q r (len + 4 + size)
+        → (r : Known) → Grown s code r → Walking q r (len + 4 + size)
     walking-again full few code size e r g =
         let k = code-taken q (s .nodes) (s .atoms) (depthOf s) code size e in
         let x = codeNode q (s .nodes) in

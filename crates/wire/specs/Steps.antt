@@ -6,6 +6,7 @@ use mathlib.Core.Option.{Option, none, some}
 use mathlib.Core.List.{List, [], _∷_, _++_}
 use lib.ListN.{length, take, drop}
 use lib.Dec.{leb, ltb, eqb}
+use lib.IntN.{ℤ}
 use Rattle.scope.specs.declared.Question.{Question}
 use Rattle.scope.specs.declared.Refusal.{Refusal}
 use Rattle.scope.specs.Sizes.{mostNodes, mostAtoms, mostDepth, variablesFit, numbersFit}
@@ -93,7 +94,17 @@ nodeAnswer b at n nodes atoms depth = nodeOr (firstRefusal (nodeFrameChecks b at
 
 -- ---- a node noted
 
+-- the question that is held by its parts
+abbrev pub heldQuestion : ℕ → List ℕ → List ℤ → List ℤ → Question
+heldQuestion n codes coefficients constants = record { n = n; codes = codes; coefficients = coefficients; constants = constants }
+
+pub record Full (q : Question) : Type 0 where
+  pub codes : length (q .codes) ≡ 64
+  pub coefficients : length (q .coefficients) ≡ 48
+  pub constants : length (q .constants) ≡ 8
+
 pub record Notable (q : Question) (code nodes atoms : ℕ) (body : List ℕ) : Type 0 where
+  pub full : Full q
   pub known : code ≤ 5
   pub room : nodes < 64
   pub few : isAtom (nodeOf code) ≡ true → atoms < 8

@@ -4,7 +4,7 @@ ghost use Prim.Native.Nat.{_≤_};
 ghost use lib.ListN.{length};
 ghost use Rattle.scope.specs.Refusals.{stopped};
 ghost use Rattle.scope.specs.Wire.{recordAt, readFrom, readHeld};
-ghost use Rattle.wire.specs.Answers.{partRead, headed, formulaRead, endFrom};
+ghost use Rattle.wire.specs.Answers.{partRead, formulaRead, endFrom};
 ghost use Rattle.wire.specs.Steps.{partOf};
 ghost use Rattle.wire.specs.Writes.{Writes};
 
@@ -22,7 +22,7 @@ use reading::NodeAnswer;
 use reading::frame_at;
 use reading::head_at;
 use reading::node_at;
-use reading::noted;
+use reading::note;
 use records::HeaderAnswer;
 use records::count_of;
 use records::header_at;
@@ -113,39 +113,44 @@ fn end_from(bytes: &[u8], at: usize, question: Question) -> ReadPart
     }
 }
 
-fn with_head(n: u8) -> Question
-    ensures { λ r. ⌜ r ≡ headed n ⌝ }
-{
-    Question {
-        n,
-        codes: [0u8; 64],
-        coefficients: [0i32; 48],
-        constants: [0i32; 8],
-    }
-}
-
+// The question's parts and the parts still due are locals, lent for each node: a question by value would be copied for each.
 fn formula_from(bytes: &[u8], at: usize, n: u8) -> ReadPart
     requires { ⌜ (n ≤ 6) × (at ≤ length (now bytes)) ⌝ }
     ensures { λ r. ⌜ r ≡ partRead (formulaRead (now (bytes .entry)) n at) ⌝ }
 {
     let count = count_of(n);
-    let mut question = with_head(n);
+    let mut codes = [0u8; 64];
+    let mut coefficients = [0i32; 48];
+    let mut constants = [0i32; 8];
+    let mut due = [1u8; DUE];
     let mut shape = unread();
     let mut place = at;
     while shape.top < DUE {
         let top = shape.top;
-        let nodes = shape.nodes;
-        let atoms = shape.atoms;
-        let depth = count_of(shape.due[top]);
-        match node_at(bytes, place, count, nodes, atoms, depth) {
+        let depth = count_of(due[top]);
+        match node_at(bytes, place, count, shape.nodes, shape.atoms, depth) {
             NodeAnswer::Refused(refusal) => return refused_part(refusal),
             NodeAnswer::Node { code, len } => {
-                question = noted(question, code, nodes, atoms, body(bytes, place + 4, len));
-                shape = grown(shape, code);
+                note(
+                    count,
+                    code,
+                    shape,
+                    body(bytes, place + 4, len),
+                    &mut codes,
+                    &mut coefficients,
+                    &mut constants,
+                );
+                shape = grown(shape, code, &mut due);
                 place = place + 4 + len;
             }
         }
     }
+    let question = Question {
+        n,
+        codes,
+        coefficients,
+        constants,
+    };
     end_from(bytes, place, question)
 }
 

@@ -51,16 +51,14 @@ pub fn numbers_fit(body: &[u8], n: usize) -> bool
     constant_fits(number_at(body, 4 * n))
 }
 
-// The coefficients with those of an atom's body from a cell on.
-pub fn with_numbers(coefficients: [i32; 48], cell: usize, body: &[u8], n: usize) -> [i32; 48]
-    requires { ⌜ (n ≤ 6) × ((4 * n + 4 ≤ length (now body)) × (cell + n ≤ 48)) ⌝ }
-    ensures { λ r. ⌜ r ≡ sets coefficients cell (numbersAt n (now (body .entry)) 0) ⌝ }
+// The coefficients of an atom's body, put from a cell on.
+pub fn put_numbers(coefficients: &mut [i32], cell: usize, body: &[u8], n: usize)
+    requires { ⌜ (n ≤ 6) × ((4 * n + 4 ≤ length (now body)) × (cell + n ≤ length (now coefficients))) ⌝ }
+    ensures { λ _. ⌜ now (coefficients .exit) ≡ sets (now (coefficients .entry)) cell (numbersAt n (now (body .entry)) 0) ⌝ }
 {
-    let mut all = coefficients;
     let mut i = 0;
     while i < n {
-        all[cell + i] = number_at(body, 4 * i);
+        coefficients[cell + i] = number_at(body, 4 * i);
         i += 1;
     }
-    all
 }

@@ -1,4 +1,4 @@
-// The checks at each record of a question, in document 01's order, and a node noted in the question.
+// The checks at each record of a question, in document 01's order, and a node noted in the parts of the question.
 ghost use mathlib.Core.Path.{_≡_};
 ghost use mathlib.Core.Bool.{not, _&&_, _||_};
 ghost use Prim.Native.Nat.{_+_, _*_, _≤_, _<_};
@@ -6,14 +6,14 @@ ghost use lib.ListN.{length};
 ghost use lib.Dec.{leb, ltb};
 ghost use Rattle.scope.specs.Question.{nodeOf, codeOf};
 ghost use Rattle.scope.specs.Wire.{nodeOfKind, bodyLength};
-ghost use Rattle.wire.specs.Steps.{frameAnswer, headAnswer, nodeFrame, nodeAnswer, Notable, notedBody};
+ghost use Rattle.wire.specs.Steps.{frameAnswer, headAnswer, nodeFrame, nodeAnswer, heldQuestion, Notable, notedBody};
 use crate::body;
 use crate::numbers::numbers_fit;
+use crate::numbers::put_numbers;
 use crate::numbers::variables_fit;
-use crate::numbers::with_numbers;
 use crate::records::HeaderAnswer;
-use crate::records::count_of;
 use crate::records::header_at;
+use crate::shape::Shape;
 use crate::shape::is_atom;
 use scope::Question;
 use scope::Refusal;
@@ -191,31 +191,24 @@ pub fn node_at(
     })
 }
 
-// A node noted in the question; its numbers where it is an atom.
-pub fn noted(question: Question, code: u8, nodes: usize, atoms: usize, body: &[u8]) -> Question
-    requires { ⌜ Notable question code nodes atoms (now body) ⌝ }
-    ensures { λ r. ⌜ r ≡ notedBody question code nodes atoms (now (body .entry)) ⌝ }
+// Notes a node in the parts of the question; its numbers where it is an atom.
+pub fn note(
+    n: usize,
+    code: u8,
+    shape: Shape,
+    body: &[u8],
+    codes: &mut [u8],
+    coefficients: &mut [i32],
+    constants: &mut [i32],
+)
+    requires { ⌜ Notable (heldQuestion n (now codes) (now coefficients) (now constants)) code (shape .nodes) (shape .atoms) (now body) ⌝ }
+    ensures { λ _. ⌜ heldQuestion n (now (codes .exit)) (now (coefficients .exit)) (now (constants .exit)) ≡ notedBody (heldQuestion n (now (codes .entry)) (now (coefficients .entry)) (now (constants .entry))) code (shape .nodes) (shape .atoms) (now (body .entry)) ⌝ }
 {
-    let small = question.n;
-    let n = count_of(small);
-    let mut codes = question.codes;
-    let coefficients = question.coefficients;
-    let mut constants = question.constants;
+    let nodes = shape.nodes;
+    let atoms = shape.atoms;
     codes[nodes] = code;
-    if !is_atom(code) {
-        return Question {
-            n: small,
-            codes,
-            coefficients,
-            constants,
-        };
-    }
-    constants[atoms] = number_at(body, 4 * n);
-    let all = with_numbers(coefficients, Question::VARIABLES * atoms, body, n);
-    Question {
-        n: small,
-        codes,
-        coefficients: all,
-        constants,
+    if is_atom(code) {
+        constants[atoms] = number_at(body, 4 * n);
+        put_numbers(coefficients, Question::VARIABLES * atoms, body, n);
     }
 }

@@ -1,31 +1,28 @@
 // The formula as far as it is known, which reading and writing both walk along.
 ghost use mathlib.Core.Path.{_≡_};
-ghost use Prim.Native.Nat.{_+_, _*_, _≤_, _<_};
-ghost use lib.ListN.{getD};
+ghost use lib.ListN.{replicate};
 ghost use Rattle.scope.specs.Question.{nodeOf, isAtom};
-ghost use Rattle.wire.specs.Formula.{Open, Grown, Unread};
+ghost use Rattle.wire.specs.Formula.{knownBy, Open, Grown, Unread};
 use scope::Question;
 
 // Room for the parts that can be due: no more than there are nodes, and one.
 pub const DUE: usize = Question::NODES + 2;
 
-// Its nodes and atoms so far. The depths of the parts still due stand in due from top on, the next one first.
+// Its nodes and atoms so far. The depths of the parts still due stand in an array of DUE from top on, the next one first.
 pub struct Shape {
     pub nodes: usize,
     pub atoms: usize,
     pub top: usize,
-    pub due: [u8; DUE],
 }
 
 // One formula is due, its root at depth 1.
 pub fn unread() -> Shape
-    ensures { λ r. ⌜ Unread r ⌝ }
+    ensures { λ r. ⌜ Unread (knownBy r (replicate 66 1)) ⌝ }
 {
     Shape {
         nodes: 0,
         atoms: 0,
         top: DUE - 1,
-        due: [1u8; DUE],
     }
 }
 
@@ -36,31 +33,24 @@ pub fn is_atom(code: u8) -> bool
 }
 
 // A node takes the place of the part that was due first, and its own parts are due before the others, one deeper.
-pub fn grown(shape: Shape, code: u8) -> Shape
-    requires { ⌜ Open shape code ⌝ }
-    ensures { λ r. ⌜ Grown shape code r ⌝ }
+pub fn grown(shape: Shape, code: u8, due: &mut [u8]) -> Shape
+    requires { ⌜ Open (knownBy shape (now due)) code ⌝ }
+    ensures { λ r. ⌜ Grown (knownBy shape (now (due .entry))) code (knownBy r (now (due .exit))) ⌝ }
 {
     let top = shape.top;
     let nodes = shape.nodes + 1;
     let atoms = shape.atoms;
-    let mut due = shape.due;
-    let deeper = due[top] + 1;
     if code <= 2 {
         return Shape {
             nodes,
             atoms: atoms + 1,
             top: top + 1,
-            due,
         };
     }
+    let deeper = due[top] + 1;
     due[top] = deeper;
     if code == 3 {
-        return Shape {
-            nodes,
-            atoms,
-            top,
-            due,
-        };
+        return Shape { nodes, atoms, top };
     }
     let below = top - 1;
     due[below] = deeper;
@@ -68,6 +58,5 @@ pub fn grown(shape: Shape, code: u8) -> Shape
         nodes,
         atoms,
         top: below,
-        due,
     }
 }

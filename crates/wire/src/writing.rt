@@ -113,15 +113,16 @@ pub fn formula_of(question: Question) -> FormulaAnswer
     requires { ⌜ question .n ≤ 6 ⌝ }
     ensures { λ r. ⌜ FormulaSays question r ⌝ }
 {
+    let mut due = [1u8; DUE];
     let mut shape = unread();
     let mut len = 5;
     while shape.top < DUE {
         let top = shape.top;
-        let depth = count_of(shape.due[top]);
+        let depth = count_of(due[top]);
         match code_at(question, shape.nodes, shape.atoms, depth) {
             NodeAnswer::Refused(refusal) => return FormulaAnswer::Refused(refusal),
             NodeAnswer::Node { code, len: size } => {
-                shape = grown(shape, code);
+                shape = grown(shape, code, &mut due);
                 len = len + 4 + size;
             }
         }

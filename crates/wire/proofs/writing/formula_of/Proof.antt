@@ -5,7 +5,7 @@ use mathlib.Core.Path.{_≡_, sym, ap, _∙_}
 use Prim.Native.Nat.{_-_}
 use lib.ListN.{length}
 use Rattle.wire.specs.Writes.{codeNode, codeAnswer}
-use Rattle.wire.specs.Formula.{depthOf}
+use Rattle.wire.specs.Formula.{knownBy, depthOf}
 use Rattle.wire.proofs.Lengths.{body-small}
 use Rattle.wire.proofs.Turns.{grown-nodes}
 use Rattle.wire.proofs.Checking.{CodeTaken, code-taken}
@@ -14,10 +14,10 @@ use Rattle.wire.proofs.writing.formula_of.Statement.{statement}
 use Rattle.wire.proofs.writing.formula_of.Tie as tie
 
 abbrev Inv-loop : tie.InvT-loop
-Inv-loop question shape₀ len₀ shape len = Walking question shape len
+Inv-loop question due₀ shape₀ len₀ due shape len = Walking question (knownBy shape due) len
 
 abbrev μ-loop : tie.MeasureT-loop
-μ-loop question shape₀ len₀ shape len = 65 - shape .nodes
+μ-loop question due₀ shape₀ len₀ due shape len = 65 - shape .nodes
 
 full : (c : tie.Start Inv-loop μ-loop) → length (c .args .question .coefficients) ≡ 48
 full c = search needs
@@ -29,56 +29,63 @@ entry c = c .before .before .before .before .before .before
 abbrev turn : tie.After-code-at Inv-loop μ-loop → tie.At-loop Inv-loop μ-loop
 turn c = c .before .before .before .before
 
-answer : (c : tie.After-code-at Inv-loop μ-loop) → c .code-at .result ≡ codeAnswer (entry c .args .question) (turn c .loop .shape .nodes) (turn c .loop .shape .atoms) (depthOf (turn c .loop .shape))
+answer : (c : tie.After-code-at Inv-loop μ-loop) → c .code-at .result ≡ codeAnswer (entry c .args .question) (turn c .loop .shape .nodes) (turn c .loop .shape .atoms) (depthOf (knownBy (turn c .loop .shape) (turn c .loop .due)))
 answer c =
     let l = turn c .loop in
     c .code-at .ensures ∙ ap (codeAnswer (entry c .args .question) (l .shape .nodes) (l .shape .atoms)) (c .before .count-of .ensures .0)
 
 node : (c : tie.After-known-told2 Inv-loop μ-loop)
-    → CodeTaken (entry (c .before .before .before) .args .question) (turn (c .before .before .before) .loop .shape .nodes) (turn (c .before .before .before) .loop .shape .atoms) (depthOf (turn (c .before .before .before) .loop .shape)) (c .before .code .given .0 .0) (c .before .code .given .0 .1 .0)
+    → CodeTaken (entry (c .before .before .before) .args .question) (turn (c .before .before .before) .loop .shape .nodes) (turn (c .before .before .before) .loop .shape .atoms) (depthOf (knownBy (turn (c .before .before .before) .loop .shape) (turn (c .before .before .before) .loop .due))) (c .before .code .given .0 .0) (c .before .code .given .0 .1 .0)
 node c = code-taken _ _ _ _ _ _ (sym (answer (c .before .before .before)) ∙ c .before .code .given .1)
 
+-- the node that a turn took
+abbrev took : tie.After-due2 Inv-loop μ-loop → tie.After-known-told2 Inv-loop μ-loop
+took c = c .before .before .before
+
+abbrev asked : tie.After-due2 Inv-loop μ-loop → tie.After-code-at Inv-loop μ-loop
+asked c = took c .before .before .before
+
 loop-holds : tie.Need-loop-holds Inv-loop μ-loop
-loop-holds c = walking-start (c .before .args .question) (c .unread .result) (c .unread .ensures)
+loop-holds c = walking-start (c .before .args .question) _ (c .unread .ensures)
 
 returns : tie.Need-returns Inv-loop μ-loop
 returns c =
-    let l = c .before .before .before .before .before .before .before .loop in
-    walking-refused (l .inv) (c .before .before .before .before .before .before .loop-test .taken) _ (sym (answer (c .before .before .before)) ∙ c .before .refusal .given .1)
+    let k = c .before .before .before in
+    walking-refused (turn k .loop .inv) (k .before .before .if1 .taken) _ (sym (answer k) ∙ c .before .refusal .given .1)
 
 grown-requires : tie.Need-grown-requires Inv-loop μ-loop
 grown-requires c κs =
-    let k = node c in
-    record { sound = c .before .before .before .before .before .before .before .loop .inv .sound; due = c .before .before .before .before .before .before .loop-test .taken; room = k .room; shallow = k .shallow; node = k .used; known = k .small }
+    let k = node (c .before) in
+    let t = c .before .before .before .before in
+    record { sound = turn t .loop .inv .sound; due = t .before .before .if1 .taken; room = k .room; shallow = k .shallow; node = k .used; known = k .small }
 
 add-len : tie.Need-add-len Inv-loop μ-loop
 add-len c =
-    let l = c .before .before .before .before .before .before .before .before .loop in
+    let l = turn (asked c) .loop in
     omega (arith, l .inv .short, l .inv .sound .bounded)
 
 add-len-2 : tie.Need-add-len-2 Inv-loop μ-loop
 add-len-2 c =
-    let l = c .before .before .before .before .before .before .before .before .loop in
-    let k = node (c .before) in
-    omega (arith, l .inv .short, l .inv .sound .bounded, k .lenIs, body-small _ (codeNode (c .before .before .before .before .before .before .before .before .before .before .args .question) (l .shape .nodes)) (c .before .before .before .before .before .before .before .before .before .before .pre))
+    let l = turn (asked c) .loop in
+    let k = node (took c) in
+    omega (arith, l .inv .short, l .inv .sound .bounded, k .lenIs, body-small _ (codeNode (entry (asked c) .args .question) (l .shape .nodes)) (entry (asked c) .pre))
 
 loop-less : tie.Need-loop-less Inv-loop μ-loop
-loop-less c = omega (arith, node (c .before) .room, grown-nodes _ _ _ (c .grown .ensures))
+loop-less c = omega (arith, node (took c) .room, grown-nodes _ _ _ (c .before .grown .ensures))
 
 loop-again : tie.Need-loop-again Inv-loop μ-loop
 loop-again c =
-    let l = c .before .before .before .before .before .before .before .before .loop in
-    walking-again (l .inv) (c .before .before .before .before .before .before .before .loop-test .taken)
-    (full (c .before .before .before .before .before .before .before .before .before .before)) (c .before .before .before .before .before .before .before .before .before .before .pre) _ _ (sym (answer (c .before .before .before .before)) ∙ c .before .before .code .given .1) (c .grown .result) (c .grown .ensures)
+    walking-again (turn (asked c) .loop .inv) (asked c .before .before .if1 .taken)
+    (full (entry (asked c))) (entry (asked c) .pre) _ _ (sym (answer (asked c)) ∙ took c .before .code .given .1) _ (c .before .grown .ensures)
 
 returns-2 : tie.Need-returns-2 Inv-loop μ-loop
 returns-2 c =
-    let l = c .before .loop in
-    walking-end (l .inv) (c .before .before .before .pre) (c .loop-test .left)
+    let l = c .before .before .loop in
+    walking-end (l .inv) (c .before .before .before .before .pre) (c .if1 .left)
 
 pub formula-of-spec : {M : Type 1} → statement M
 formula-of-spec =
     tie.close
     (tie.spec Inv-loop μ-loop (λ c κs. search needs) loop-holds (λ c. search needs) (λ c κs. search needs)
-    (λ c κs. search needs) (λ c. search needs) returns (λ c. search needs) grown-requires add-len add-len-2 loop-less
-    loop-again returns-2)
+    (λ c κs. search needs) (λ c. search needs) returns (λ c. search needs) (λ c. search needs) grown-requires add-len
+    add-len-2 loop-less loop-again returns-2)
