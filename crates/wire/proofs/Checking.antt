@@ -21,7 +21,7 @@ use Rattle.scope.specs.Wire.{bodyLength, unread, endKind}
 use Rattle.scope.specs.Writing.{recordBytes, Walk, headWritten, partWritten, numbersClear, leftOver, endWritten, written}
 use Rattle.wire.specs.declared.reading.NodeAnswer.{NodeAnswer}
 use Rattle.wire.specs.Steps.{nodeOr}
-use Rattle.wire.specs.Writes.{codeNode, bytesTo, codeCheckList, codeAnswer, walkAt, CodeLeft, coefficientClear, constantClear}
+use Rattle.wire.specs.Writes.{codeNode, bytesTo, numbered, codeCheckList, codeAnswer, walkAt, CodeLeft, coefficientClear, constantClear}
 use Rattle.wire.proofs.Codes.{code-of-node, other-code}
 use Rattle.wire.proofs.Nodes.{node-none, node-some, few-atoms}
 use Rattle.theory.specs.Checks.{onward-stopped}
@@ -36,6 +36,11 @@ module _ (q : Question) (a : ℕ) where
   pub row-beyond : all coefficientFits (take (q .n) (drop (6 * a) (q .coefficients))) ≡ false → false ≡ numbersFit (coefficientsOf q a) (constantOf q a)
   unfolding numbersFit coefficientsOf
   row-beyond e = rw e
+
+  -- the codes have no part in it
+  pub fits-alone : numbersFit (coefficientsOf (numbered (q .n) (q .coefficients) (q .constants)) a) (constantOf (numbered (q .n) (q .coefficients) (q .constants)) a) ≡ numbersFit (coefficientsOf q a) (constantOf q a)
+  unfolding coefficientsOf constantOf
+  fits-alone = refl
 
   -- ---- what is left over of the numbers
 

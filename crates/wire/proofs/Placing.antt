@@ -12,7 +12,7 @@ use Rattle.scope.specs.Question.{Node, isAtom, coefficientsOf, constantOf}
 use Rattle.scope.specs.Wire.{endKind, kindOf, bodyLength}
 use Rattle.scope.specs.Writing.{twoBytes, recordBytes, atomBody, nodeBytes}
 use Rattle.theory.specs.Records.{body-length}
-use Rattle.wire.specs.Writes.{codeNode, atomsTo, bytesTo}
+use Rattle.wire.specs.Writes.{codeNode, atomsTo, bytesTo, numbered}
 use Rattle.wire.proofs.Lengths.{row-length, bytes-head, bytes-next, atoms-next}
 use Rattle.wire.proofs.Stores.{sets-append}
 
@@ -31,6 +31,11 @@ module _ (q : Question) (x : Node) (a at : ℕ) (buf one : List ℕ) (kind len :
       g ∙ ap (λ (o : List ℕ). sets o (at + 4) body) f ∙ sym (sets-append buf at (twoBytes len ++ twoBytes kind) body)
       ∙ (λ i. sets buf at (twoBytes (l i) ++ (twoBytes (k i) ++ body)))
       ∙ rw e
+
+-- the codes have no part in it
+pub bytes-alone : (q : Question) (n : ℕ) (x : Node) (a : ℕ) → n ≡ q .n → nodeBytes (numbered n (q .coefficients) (q .constants)) x a ≡ nodeBytes q x a
+unfolding nodeBytes coefficientsOf constantOf
+bytes-alone q n x a e = rw e
 
 -- of an atom, the length is that of the body
 pub body-is : (q : Question) (x : Node) (a len : ℕ) → length (q .coefficients) ≡ 48 → q .n ≤ 6 → a < 8 → isAtom x ≡ true → len ≡ bodyLength (q .n) x

@@ -13,7 +13,9 @@ use Rattle.scope.specs.Refusals.{Progress, stopped, going, ended, orStopped, on
 use Rattle.scope.specs.Wire as wire
 use Rattle.scope.specs.Writing.{nodeBytes, Walk, nodeWritten, dueWritten, partWritten}
 use Rattle.wire.specs.declared.reading.NodeAnswer.{NodeAnswer}
-use Rattle.wire.specs.Writes.{codeNode, atomsTo, bytesTo, codeAnswer, FormulaIs, walkAt}
+use Rattle.wire.specs.declared.writing.FormulaAnswer.{FormulaAnswer}
+use Rattle.wire.specs.Steps.{heldQuestion}
+use Rattle.wire.specs.Writes.{codeNode, atomsTo, bytesTo, codeAnswer, FormulaIs, FormulaSays, walkAt}
 use Rattle.wire.specs.Formula.{Known, Sound, Grown, Unread, shapeOf, depthOf, laterOf}
 use Rattle.wire.proofs.Turns.{due-first, due-none, onward-first, grown-nodes}
 use Rattle.theory.specs.Checks.{onward-stopped, onward-ended}
@@ -124,3 +126,7 @@ module _ {q : Question} {s : Known} {len : ℕ} (w : Walking q s len) where
               ((λ i. going (record { shape = (g .shape ∙ ap (λ (z : Node). wire.grown z (depthOf s) (laterOf s) (shapeOf s)) (k .node)) i; bytes = y i })) ∙ sym (turn-taken q s (w .sound) t code size k))
               ∙ sym first);
         }
+
+-- what is said of the question that is held by its parts
+pub says-held : (q : Question) (n : ℕ) (r : FormulaAnswer) → n ≡ q .n → FormulaSays (heldQuestion n (q .codes) (q .coefficients) (q .constants)) r → FormulaSays q r
+says-held q n r e h = rw e at h

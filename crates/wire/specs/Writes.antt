@@ -17,7 +17,7 @@ use Rattle.scope.specs.Wire.{bodyLength, unread, headKind, endKind}
 use Rattle.scope.specs.Writing.{recordBytes, nodeBytes, Walk, partWritten, codeChecks, coefficientUsed, written, wrote}
 use Rattle.wire.specs.declared.reading.NodeAnswer.{NodeAnswer}
 use Rattle.wire.specs.declared.writing.FormulaAnswer.{FormulaAnswer}
-use Rattle.wire.specs.Steps.{nodeOr}
+use Rattle.wire.specs.Steps.{nodeOr, heldQuestion}
 
 -- ---- a call's outcome
 
@@ -89,10 +89,24 @@ coefficientClear n atoms c z = coefficientUsed n atoms c || eqZ z (pos 0)
 abbrev pub constantClear : ℕ → ℕ → ℤ → Bool
 constantClear atoms i z = ltb i atoms || eqZ z (pos 0)
 
+-- ---- a question's numbers
+
+-- the question by its numbers alone: what is said of it looks at no code
+abbrev pub numbered : ℕ → List ℤ → List ℤ → Question
+numbered n coefficients constants = heldQuestion n [] coefficients constants
+
+pub record AtomHeld (n : ℕ) (coefficients constants : List ℤ) (atom : ℕ) : Type 0 where
+  pub variables : n ≤ 6
+  pub few : atom < 8
+  pub coefficients-full : length coefficients ≡ 48
+  pub constants-full : length constants ≡ 8
+
 -- ---- room in a buffer
 
 pub record NodeRoom (q : Question) (code atom : ℕ) (buffer : List ℕ) (at : ℕ) : Type 0 where
   pub variables : q .n ≤ 6
+  pub coefficients-full : length (q .coefficients) ≡ 48
+  pub constants-full : length (q .constants) ≡ 8
   pub few : isAtom (nodeOf code) ≡ true → atom < 8
   pub room : at + 4 + bodyLength (q .n) (nodeOf code) ≤ length buffer
 

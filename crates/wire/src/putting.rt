@@ -8,7 +8,7 @@ ghost use lib.Seq.{sets};
 ghost use Rattle.scope.specs.Question.{nodeOf, isAtom, coefficientsOf, constantOf};
 ghost use Rattle.scope.specs.Wire.{headKind, endKind, kindOf};
 ghost use Rattle.scope.specs.Writing.{twoBytes, recordBytes, atomBody, nodeBytes};
-ghost use Rattle.wire.specs.Writes.{bytesTo, NodeRoom, QuestionRoom};
+ghost use Rattle.wire.specs.Writes.{bytesTo, numbered, AtomHeld, NodeRoom, QuestionRoom};
 use crate::reading::body_length;
 use crate::records::count_of;
 use crate::shape::is_atom;
@@ -40,13 +40,17 @@ pub fn put_head(bytes: &mut [u8], n: u8)
 }
 
 // The body of an atom.
-pub fn put_atom(question: Question, atom: usize, bytes: &mut [u8], at: usize)
-    requires { ⌜ (question .n ≤ 6) × ((atom < 8) × (at + 4 * (question .n + 1) ≤ length (now bytes))) ⌝ }
-    ensures { λ _. ⌜ now (bytes .exit) ≡ sets (now (bytes .entry)) at (atomBody (coefficientsOf question atom) (constantOf question atom)) ⌝ }
+pub fn put_atom(
+    n: usize,
+    coefficients: &[i32],
+    constants: &[i32],
+    atom: usize,
+    bytes: &mut [u8],
+    at: usize,
+)
+    requires { ⌜ AtomHeld n (now coefficients) (now constants) atom × (at + 4 * (n + 1) ≤ length (now bytes)) ⌝ }
+    ensures { λ _. ⌜ now (bytes .exit) ≡ sets (now (bytes .entry)) at (atomBody (coefficientsOf (numbered n (now (coefficients .entry)) (now (constants .entry))) atom) (constantOf (numbered n (now (coefficients .entry)) (now (constants .entry))) atom)) ⌝ }
 {
-    let n = count_of(question.n);
-    let coefficients = question.coefficients;
-    let constants = question.constants;
     let row = Question::VARIABLES * atom;
     let mut j = 0;
     while j < n {
@@ -76,15 +80,23 @@ fn narrow(len: usize) -> u16
     len as u16
 }
 
-pub fn put_node(question: Question, code: u8, atom: usize, bytes: &mut [u8], at: usize)
-    requires { ⌜ NodeRoom question code atom (now bytes) at ⌝ }
-    ensures { λ _. ⌜ now (bytes .exit) ≡ sets (now (bytes .entry)) at (nodeBytes question (nodeOf code) atom) ⌝ }
+pub fn put_node(
+    n: usize,
+    coefficients: &[i32],
+    constants: &[i32],
+    code: u8,
+    atom: usize,
+    bytes: &mut [u8],
+    at: usize,
+)
+    requires { ⌜ NodeRoom (numbered n (now coefficients) (now constants)) code atom (now bytes) at ⌝ }
+    ensures { λ _. ⌜ now (bytes .exit) ≡ sets (now (bytes .entry)) at (nodeBytes (numbered n (now (coefficients .entry)) (now (constants .entry))) (nodeOf code) atom) ⌝ }
 {
     let kind = kind_of_code(code);
-    let len = narrow(body_length(count_of(question.n), code));
+    let len = narrow(body_length(n, code));
     put_header(bytes, at, kind, len);
     if is_atom(code) {
-        put_atom(question, atom, bytes, at + 4);
+        put_atom(n, coefficients, constants, atom, bytes, at + 4);
     }
 }
 
@@ -102,13 +114,15 @@ pub fn put_question(question: Question, nodes: usize, bytes: &mut [u8])
     let n = question.n;
     let count = count_of(n);
     let codes = question.codes;
+    let coefficients = question.coefficients;
+    let constants = question.constants;
     put_head(bytes, n);
     let mut at = 5;
     let mut atoms = 0;
     let mut i = 0;
     while i < nodes {
         let code = codes[i];
-        put_node(question, code, atoms, bytes, at);
+        put_node(count, &coefficients, &constants, code, atoms, bytes, at);
         at = at + 4 + body_length(count, code);
         atoms = counted(atoms, code);
         i += 1;

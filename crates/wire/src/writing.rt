@@ -6,8 +6,11 @@ ghost use lib.ListN.{length, take, drop};
 ghost use Rattle.scope.specs.Whole.{all, allFrom};
 ghost use Rattle.scope.specs.Sizes.{coefficientFits, numbersFit};
 ghost use Rattle.scope.specs.Question.{nodeOf, isUnused, coefficientsOf, constantOf};
+ghost use Rattle.scope.specs.Refusals.{refusal};
 ghost use Rattle.scope.specs.Writing.{numbersClear};
-ghost use Rattle.wire.specs.Writes.{codeAnswer, FormulaSays, CheckedSays, CodeLeft, coefficientClear, constantClear};
+ghost use Rattle.wire.specs.declared.reading.NodeAnswer.{NodeAnswer};
+ghost use Rattle.wire.specs.Steps.{heldQuestion, Full};
+ghost use Rattle.wire.specs.Writes.{numbered, AtomHeld, codeAnswer, FormulaSays, CheckedSays, CodeLeft, coefficientClear, constantClear};
 use crate::numbers::coefficient_fits;
 use crate::numbers::constant_fits;
 use crate::numbers::variables_fit;
@@ -36,9 +39,9 @@ pub enum FormulaAnswer {
 }
 
 // The n coefficients from a cell on.
-pub fn row_fits(coefficients: [i32; 48], cell: usize, n: usize) -> bool
-    requires { ⌜ cell + n ≤ 48 ⌝ }
-    ensures { λ r. ⌜ r ≡ all coefficientFits (take n (drop cell coefficients)) ⌝ }
+pub fn row_fits(coefficients: &[i32], cell: usize, n: usize) -> bool
+    requires { ⌜ cell + n ≤ length (now coefficients) ⌝ }
+    ensures { λ r. ⌜ r ≡ all coefficientFits (take n (drop cell (now (coefficients .entry)))) ⌝ }
 {
     let mut i = 0;
     while i < n {
@@ -51,13 +54,10 @@ pub fn row_fits(coefficients: [i32; 48], cell: usize, n: usize) -> bool
 }
 
 // The numbers of an atom.
-pub fn atom_fits(question: Question, atom: usize) -> bool
-    requires { ⌜ (question .n ≤ 6) × (atom < 8) ⌝ }
-    ensures { λ r. ⌜ r ≡ numbersFit (coefficientsOf question atom) (constantOf question atom) ⌝ }
+pub fn atom_fits(n: usize, coefficients: &[i32], constants: &[i32], atom: usize) -> bool
+    requires { ⌜ AtomHeld n (now coefficients) (now constants) atom ⌝ }
+    ensures { λ r. ⌜ r ≡ numbersFit (coefficientsOf (numbered n (now (coefficients .entry)) (now (constants .entry))) atom) (constantOf (numbered n (now (coefficients .entry)) (now (constants .entry))) atom) ⌝ }
 {
-    let n = count_of(question.n);
-    let coefficients = question.coefficients;
-    let constants = question.constants;
     if row_fits(coefficients, Question::VARIABLES * atom, n) {
         return constant_fits(constants[atom]);
     }
@@ -70,56 +70,69 @@ pub fn is_node(code: u8) -> bool
     if code == 0 { false } else { code <= 5 }
 }
 
+fn refused(number: u8, place: usize) -> NodeAnswer
+    ensures { λ r. ⌜ r ≡ NodeAnswer.Refused (refusal number place) ⌝ }
+{
+    NodeAnswer::Refused(Refusal { number, place })
+}
+
 // A node's code with all its checks.
-pub fn code_at(question: Question, nodes: usize, atoms: usize, depth: usize) -> NodeAnswer
-    requires { ⌜ question .n ≤ 6 ⌝ }
-    ensures { λ r. ⌜ r ≡ codeAnswer question nodes atoms depth ⌝ }
+pub fn code_at(
+    n: usize,
+    codes: &[u8],
+    coefficients: &[i32],
+    constants: &[i32],
+    nodes: usize,
+    atoms: usize,
+    depth: usize,
+) -> NodeAnswer
+    requires { ⌜ (n ≤ 6) × Full (heldQuestion n (now codes) (now coefficients) (now constants)) ⌝ }
+    ensures { λ r. ⌜ r ≡ codeAnswer (heldQuestion n (now (codes .entry)) (now (coefficients .entry)) (now (constants .entry))) nodes atoms depth ⌝ }
 {
     if Question::NODES <= nodes {
-        return NodeAnswer::Refused(Refusal {
-            number: 5,
-            place: nodes,
-        });
+        return refused(5, nodes);
     }
-    let codes = question.codes;
     let code = codes[nodes];
     if !is_node(code) {
-        return NodeAnswer::Refused(Refusal {
-            number: 2,
-            place: nodes,
-        });
+        return refused(2, nodes);
     }
     let atom = is_atom(code);
     if !sized(atom, atoms, depth) {
-        return NodeAnswer::Refused(Refusal {
-            number: 5,
-            place: nodes,
-        });
+        return refused(5, nodes);
     }
-    let len = body_length(count_of(question.n), code);
+    let len = body_length(n, code);
     if !atom {
         return NodeAnswer::Node { code, len };
     }
-    if atom_fits(question, atoms) {
+    if atom_fits(n, coefficients, constants, atoms) {
         return NodeAnswer::Node { code, len };
     }
-    NodeAnswer::Refused(Refusal {
-        number: 4,
-        place: nodes,
-    })
+    refused(4, nodes)
 }
 
 pub fn formula_of(question: Question) -> FormulaAnswer
     requires { ⌜ question .n ≤ 6 ⌝ }
     ensures { λ r. ⌜ FormulaSays question r ⌝ }
 {
+    let n = count_of(question.n);
+    let codes = question.codes;
+    let coefficients = question.coefficients;
+    let constants = question.constants;
     let mut due = [1u8; DUE];
     let mut shape = unread();
     let mut len = 5;
     while shape.top < DUE {
         let top = shape.top;
         let depth = count_of(due[top]);
-        match code_at(question, shape.nodes, shape.atoms, depth) {
+        match code_at(
+            n,
+            &codes,
+            &coefficients,
+            &constants,
+            shape.nodes,
+            shape.atoms,
+            depth,
+        ) {
             NodeAnswer::Refused(refusal) => return FormulaAnswer::Refused(refusal),
             NodeAnswer::Node { code, len: size } => {
                 shape = grown(shape, code, &mut due);

@@ -10,23 +10,27 @@ use mathlib.Core.Bool.{true}
 use Rattle.scope.specs.Question.{isAtom}
 use Rattle.scope.specs.Wire.{bodyLength}
 use Rattle.scope.specs.Writing.{nodeBytes}
+use Rattle.wire.specs.Steps.{heldQuestion}
 use Rattle.wire.specs.Writes.{codeNode, atomsTo, bytesTo}
 use Rattle.wire.proofs.Lengths.{node-length, bytes-first}
-use Rattle.wire.proofs.Placing.{NodesLeft, nodes-start, nodes-again, nodes-whole, length-below, atoms-below, atoms-most, bytes-least}
+use Rattle.wire.proofs.Placing.{bytes-alone, NodesLeft, nodes-start, nodes-again, nodes-whole, length-below, atoms-below, atoms-most, bytes-least}
 use Rattle.wire.proofs.putting.put_question.Statement.{statement}
 use Rattle.wire.proofs.putting.put_question.Tie as tie
 
 abbrev Inv-loop : tie.InvT-loop
-Inv-loop question nodes bytes₀ n count codes at₀ atoms₀ i₀ bytes at atoms i = NodesLeft question nodes bytes₀ bytes at atoms i
+Inv-loop nodes bytes₀ n count codes coefficients constants at₀ atoms₀ i₀ bytes at atoms i = NodesLeft (heldQuestion n codes coefficients constants) nodes bytes₀ bytes at atoms i
 
 abbrev μ-loop : tie.MeasureT-loop
-μ-loop question nodes bytes₀ n count codes at₀ atoms₀ i₀ bytes at atoms i = nodes - i
+μ-loop nodes bytes₀ n count codes coefficients constants at₀ atoms₀ i₀ bytes at atoms i = nodes - i
 
 full : (c : tie.Start Inv-loop μ-loop) → length (c .args .question .coefficients) ≡ 48
 full c = search needs
 
+full-constants : (c : tie.Start Inv-loop μ-loop) → length (c .args .question .constants) ≡ 8
+full-constants c = search needs
+
 abbrev entry : tie.In-loop Inv-loop μ-loop → tie.Start Inv-loop μ-loop
-entry c = c .before .before .before .before .before .before .before .before .before
+entry c = c .before .before .before .before .before .before .before .before .before .before .before
 
 few : (c : tie.In-loop Inv-loop μ-loop) → isAtom (codeNode (entry c .args .question) (c .before .loop .i)) ≡ true → atomsTo (entry c .args .question) (c .before .loop .i) < 8
 few c e =
@@ -45,65 +49,75 @@ below c =
     let l = c .before .loop in
     omega (arith, l .inv .atIs, long c, length-below (a .question) (l .i) (a .nodes) (c .loop-test .taken))
 
-same : (c : tie.At-loop Inv-loop μ-loop) → length (c .loop .bytes) ≡ length (now (c .before .before .before .before .before .before .before .before .args .bytes))
+same : (c : tie.At-loop Inv-loop μ-loop) → length (c .loop .bytes) ≡ length (now (c .before .before .before .before .before .before .before .before .before .before .args .bytes))
 same c = c .loop .inv .same ∙ c .before .before .before .put-head .kept .0
 
-size : (c : tie.After-body-length Inv-loop μ-loop)
-    → c .body-length .result ≡ bodyLength (c .before .before .before .before .before .before .before .before .before .before .before .before .before .before .args .question .n) (codeNode (c .before .before .before .before .before .before .before .before .before .before .before .before .before .before .args .question) (c .before .before .before .before .before .before .loop .i))
-size c = c .body-length .ensures ∙ ap (λ (n : ℕ). bodyLength n (codeNode (c .before .before .before .before .before .before .before .before .before .before .before .before .before .before .args .question) (c .before .before .before .before .before .before .loop .i))) (c .before .before .before .before .before .before .before .before .before .before .before .before .count-of .ensures .0)
+-- n, as it is counted
+count : (c : tie.In-loop Inv-loop μ-loop) → c .before .before .before .before .before .before .before .before .before .count-of .result ≡ entry c .args .question .n
+count c = c .before .before .before .before .before .before .before .before .before .count-of .ensures .0
+
+counted-length : (c : tie.In-loop Inv-loop μ-loop)
+    → bodyLength (c .before .before .before .before .before .before .before .before .before .count-of .result) (codeNode (entry c .args .question) (c .before .loop .i)) ≡ bodyLength (entry c .args .question .n) (codeNode (entry c .args .question) (c .before .loop .i))
+counted-length c = ap (λ (n : ℕ). bodyLength n (codeNode (entry c .args .question) (c .before .loop .i))) (count c)
 
 put-head-requires : tie.Need-put-head-requires Inv-loop μ-loop
 put-head-requires c κs =
-    let a = c .before .before .before .before .args in
-    omega (arith, c .before .before .before .before .pre .room, bytes-least (a .question) (a .nodes))
+    let s = c .before .before .before .before .before .before in
+    omega (arith, s .pre .room, bytes-least (s .args .question) (s .args .nodes))
 
 loop-holds : tie.Need-loop-holds Inv-loop μ-loop
 loop-holds c =
-    let a = c .before .before .before .before .before .before .before .args in
+    let a = c .before .before .before .before .before .before .before .before .before .args in
     nodes-start (a .question) (a .nodes) (c .before .before .put-head .last .0)
 
 put-node-requires : tie.Need-put-node-requires Inv-loop μ-loop
 put-node-requires c κs =
+    let t = c .before .before .before in
+    let s = entry t in
     record {
-      variables = c .before .before .before .before .before .before .before .before .before .before .pre .variables;
-      few = λ a. rw (c .before .before .loop .inv .atomsIs) (few (c .before) a);
-      room = omega (arith, below (c .before), c .before .before .before .before .before .before .before .before .before .before .pre .room, same (c .before .before));
+      variables = omega (arith, count t, s .pre .variables);
+      coefficients-full = full s;
+      constants-full = full-constants s;
+      few = λ a. rw (t .before .loop .inv .atomsIs) (few t a);
+      room = omega (arith, below t, counted-length t, s .pre .room, same (t .before));
     }
 
 add-at : tie.Need-add-at Inv-loop μ-loop
-add-at c =
-    omega (arith, below (c .before .before .before .before), c .before .before .before .before .before .before .before .before .before .before .before .before .before .pre .short)
+add-at c = let t = c .before .before .before .before .before .before in omega (arith, below t, entry t .pre .short)
 
 add-at-2 : tie.Need-add-at-2 Inv-loop μ-loop
-add-at-2 c =
-    omega (arith, below (c .before .before .before .before .before), c .before .before .before .before .before .before .before .before .before .before .before .before .before .before .pre .short, size c)
+add-at-2 c = let t = c .before .before .before .before .before .before .before in omega (arith, below t, entry t .pre .short, counted-length t, c .body-length .ensures)
 
 counted-requires : tie.Need-counted-requires Inv-loop μ-loop
 counted-requires c κs =
-    let a = c .before .before .before .before .before .before .before .before .before .before .before .before .before .before .args in
-    let l = c .before .before .before .before .before .before .loop in
-    omega (arith, l .inv .atomsIs, c .before .before .before .before .before .before .before .before .before .before .before .before .before .before .pre .few-atoms, atoms-most (a .question) (l .i) (a .nodes) (l .inv .within))
+    let t = c .before .before .before .before .before .before .before in
+    let a = entry t .args in
+    let l = t .before .loop in
+    omega (arith, l .inv .atomsIs, entry t .pre .few-atoms, atoms-most (a .question) (l .i) (a .nodes) (l .inv .within))
 
 loop-again : tie.Need-loop-again Inv-loop μ-loop
 loop-again c =
-    let a = c .before .before .before .before .before .before .before .before .before .before .before .before .before .before .before .args in
-    let l = c .before .before .before .before .before .before .before .loop in
-    let q = a .question in
-    nodes-again (l .inv) (c .before .before .before .before .before .before .loop-test .taken)
-    (c .before .before .before .before .put-node .last .1 .1 .1 .0) (c .before .body-length .result) (c .counted .result) (c .before .before .before .before .put-node .kept .1 .1 .1 .0) (c .before .before .before .before .put-node .ensures)
-    (ap (λ (k : ℕ). length (nodeBytes q (codeNode q (l .i)) k)) (l .inv .atomsIs) ∙ long (c .before .before .before .before .before .before) ∙ ap (λ (k : ℕ). 4 + k) (sym (size (c .before)))) (c .counted .ensures)
+    let t = c .before .before .before .before .before .before .before .before in
+    let l = t .before .loop in
+    let q = entry t .args .question in
+    let p = c .before .before .before .before .put-node in
+    nodes-again (l .inv) (t .loop-test .taken)
+    (p .last .1 .1 .1 .1 .1 .0) (c .before .body-length .result) (c .counted .result) (p .kept .1 .1 .1 .1 .1 .0)
+    (p .ensures ∙ ap (sets (l .bytes) (l .at)) (bytes-alone q _ (codeNode q (l .i)) (l .atoms) (count t)))
+    (ap (λ (k : ℕ). length (nodeBytes q (codeNode q (l .i)) k)) (l .inv .atomsIs) ∙ long t ∙ ap (λ (k : ℕ). 4 + k) (sym (c .before .body-length .ensures ∙ counted-length t))) (c .counted .ensures)
 
 put-header-requires : tie.Need-put-header-requires Inv-loop μ-loop
 put-header-requires c κs =
-    let a = c .before .before .before .before .before .before .before .before .before .before .args in
+    let s = c .before .before .before .before .before .before .before .before .before .before .before .before in
+    let a = s .args in
     let l = c .before .before .loop in
     let e : l .i ≡ a .nodes = omega (arith, l .inv .within, c .before .loop-test .left) in
-    omega (arith, c .before .before .before .before .before .before .before .before .before .before .pre .room, same (c .before .before), l .inv .atIs, ap (λ (i : ℕ). length (bytesTo (a .question) i)) e)
+    omega (arith, s .pre .room, same (c .before .before), l .inv .atIs, ap (λ (i : ℕ). length (bytesTo (a .question) i)) e)
 
 returns : tie.Need-returns Inv-loop μ-loop
 returns c =
     let l = c .before .before .before .before .before .loop in
-    let a = c .before .before .before .before .before .before .before .before .before .before .before .before .before .args in
+    let a = c .before .before .before .before .before .before .before .before .before .before .before .before .before .before .before .args in
     nodes-whole (l .inv) (c .before .before .before .before .loop-test .left)
     (now (a .bytes)) (c .before .before .put-header .last .0) (c .before .before .before .before .before .before .before .before .put-head .ensures ∙ ap (sets (now (a .bytes)) 0) (sym (bytes-first (a .question)))) (c .before .before .put-header .ensures)
 
@@ -111,5 +125,5 @@ pub put-question-spec : {M : Type 1} → statement M
 put-question-spec =
     tie.close
     (tie.spec Inv-loop μ-loop (λ c κs. search needs) put-head-requires loop-holds (λ c. search needs)
-    put-node-requires add-at (λ c κs. search needs) add-at-2 counted-requires (λ c. search needs) (λ c. search needs)
-    loop-again put-header-requires (λ c. search needs) returns)
+    (λ c. search needs) (λ c. search needs) put-node-requires add-at (λ c κs. search needs) add-at-2 counted-requires
+    (λ c. search needs) (λ c. search needs) loop-again put-header-requires (λ c. search needs) returns)

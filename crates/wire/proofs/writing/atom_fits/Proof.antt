@@ -1,37 +1,43 @@
 -- `wire::writing::atom_fits` meets its contract.
-use mathlib.Core.Path.{_≡_, sym, ap, _∙_}
-use mathlib.Core.Bool.{Bool, true, false}
-use Prim.Native.Nat.{ℕ, _*_}
+use native.Mathlib.Omega.{arith}
+use mathlib.Core.Path.{sym, _∙_}
 use lib.IntN.{pos}
-use lib.ListN.{getD, take, drop}
+use lib.ListN.{getD}
+use denote.Ref.{now}
 use mir.Syntax.{w32}
 use mir.ValLaws.{toZ-ofZ}
-use Rattle.scope.specs.Whole.{all}
-use Rattle.scope.specs.Sizes.{coefficientFits}
+use Rattle.wire.specs.Writes.{numbered}
 use Rattle.wire.proofs.Checking.{row-fit, row-beyond}
 use borrow.Author.Needs.{needs}
 use Rattle.wire.proofs.writing.atom_fits.Statement.{statement}
 use Rattle.wire.proofs.writing.atom_fits.Tie as tie
 
-row : (c : tie.After-row-fits) (t : Bool) → c .row-fits .result ≡ t
-    → all coefficientFits (take (c .before .before .before .before .args .question .n) (drop (6 * c .before .before .before .before .args .atom) (c .before .before .before .before .args .question .coefficients))) ≡ t
-row c t e =
-    let a = c .before .before .before .before .args in
-    ap (λ (n : ℕ). all coefficientFits (take n (drop (6 * a .atom) (a .question .coefficients)))) (sym (c .before .before .before .count-of .ensures .0)) ∙ sym (c .row-fits .ensures) ∙ e
+mul-row-fits : tie.Need-mul-row-fits
+mul-row-fits c = omega (arith, c .pre .few)
+
+row-fits-requires : tie.Need-row-fits-requires
+row-fits-requires c κs = omega (arith, c .pre .variables, c .pre .few, c .pre .coefficients-full)
+
+mul-constant-fits : tie.Need-mul-constant-fits
+mul-constant-fits c = omega (arith, c .before .before .pre .few)
+
+shared-slice-copy-out-constant-fits : tie.Need-shared-slice-copy-out-constant-fits
+shared-slice-copy-out-constant-fits c = omega (arith, c .before .before .pre .few, c .before .before .pre .constants-full)
 
 returns : tie.Need-returns
 returns c =
-    let a = c .before .before .before .before .before .before .before .args in
-    let z = getD (a .question .constants) (a .atom) (pos 0) in
-    simp (toZ-ofZ w32 z (record { sfits = c .before .constant-fits-arg .given })) at (c .constant-fits .ensures) ∙ row-fit (a .question) (a .atom) (row (c .before .before .before) true (c .before .before .if1 .taken))
+    let a = c .before .before .before .before .args in
+    let z = getD (now (a .constants)) (a .atom) (pos 0) in
+    simp (toZ-ofZ w32 z (record { sfits = c .before .constant-fits-arg .given })) at (c .constant-fits .ensures)
+    ∙ row-fit (numbered (a .n) (now (a .coefficients)) (now (a .constants))) (a .atom) (sym (c .before .before .before .row-fits .ensures) ∙ c .before .before .if1 .taken)
 
 returns-2 : tie.Need-returns-2
 returns-2 c =
-    let a = c .before .before .before .before .before .args in
-    row-beyond (a .question) (a .atom) (row (c .before) false (c .if1 .left))
+    let a = c .before .before .args in
+    row-beyond (numbered (a .n) (now (a .coefficients)) (now (a .constants))) (a .atom) (sym (c .before .row-fits .ensures) ∙ c .if1 .left)
 
 pub atom-fits-spec : {M : Type 1} → statement M
 atom-fits-spec =
     tie.close
-    (tie.spec (λ c κs. search needs) (λ c. search needs) (λ c κs. search needs) (λ c. search needs)
-    (λ c. search needs) (λ c κs. search needs) returns returns-2)
+    (tie.spec mul-row-fits row-fits-requires mul-constant-fits shared-slice-copy-out-constant-fits
+    (λ c κs. search needs) returns returns-2)
