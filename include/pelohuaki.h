@@ -16,8 +16,16 @@
  * first. As many of a call's cells are written as are lent, and no others: a caller who needs none of them lends none. A refused
  * call tells 0 in every cell but the place, except that 7 and 8 of deciding and 7 of building tell the states, and 8 the letters.
  *
- * BYTE ORDER. A question's bytes are the same on every machine: two-byte lengths and kinds and four-byte numbers, little-endian,
- * numbers in two's complement. All other cells are the machine's own integers.
+ * QUESTIONS. A question's bytes are records: the length of the body (two bytes), the kind (two bytes), the body. First the head (body:
+ * one byte, n), then one formula with each connective before its parts, then the end. An atom's body is its n coefficients and its
+ * constant, four bytes each; connectives and the end have none. These bytes are the same on every machine: little-endian, numbers in
+ * two's complement. All other cells are the machine's own integers. 5x + y = 3 is, record by record:
+ *
+ *     01 00  01 00  02
+ *     0C 00  10 00  05 00 00 00  01 00 00 00  03 00 00 00
+ *     00 00  FF 00
+ *
+ * docs/GLOSSARY.md explains letters, words, states, keys, paths and tables.
  *
  * REFUSALS.
  *

@@ -1,4 +1,4 @@
-//! The outside vectors in `data/`, taken apart: lists are joined by commas, bytes are hex, `-` is an empty list or no bytes.
+//! The outside vectors (those of crate `vectors`, and `data/`), taken apart: lists are joined by commas, bytes are hex, `-` is an empty list or no bytes.
 
 pub const BASE: &str = include_str!("../../crates/vectors/data/base.txt");
 pub const BLOCKS: &[u8] = include_bytes!("../data/blocks.bin");

@@ -40,8 +40,8 @@
 //! Every input gets an answer: no call panics, and none asks anything of its caller. What a call
 //! leaves in the areas that are lent to it is fixed for every answer. [`read`], [`write()`], [`Place`],
 //! [`judge`], [`decide`], [`build`], [`run`] and [`spell`] allocate nothing and keep nothing from one
-//! call to the next; they may run on several threads. Deciding and building take some hundred
-//! kilobytes of stack.
+//! call to the next; they may run on several threads. Deciding and building take 261 KiB of
+//! stack each.
 //!
 //! What is proved is the archive that this crate links. The crate itself turns Rust's types into
 //! pointers and lengths and back, which is tested and not proved.
