@@ -1,9 +1,9 @@
 -- Demand 1, what is left after a refusal, of any outcome that the contracts allow.
 use mathlib.Core.Path.{_≡_, sym, _∙_}
 use mathlib.Core.List.{List}
-use Prim.Native.Nat.{ℕ}
+use Prim.Native.Nat.{ℕ, _*_, _≤_}
 use native.Mathlib.Omega.{arith}
-use lib.ListN.{length}
+use lib.ListN.{length, getD, take}
 use lib.IntN.{ℤ}
 use Rattle.scope.specs.declared.Question.{Question}
 use Rattle.scope.specs.declared.Refusal.{Refusal}
@@ -13,9 +13,10 @@ use Rattle.scope.specs.declared.BuildAnswer.{BuildAnswer}
 use Rattle.scope.specs.Question.{atomCount}
 use Rattle.scope.specs.Writing.{Wrote}
 use Rattle.scope.specs.Deciding.{decideRoom, Decided}
-use Rattle.scope.specs.Building.{buildRoom, Built}
+use Rattle.scope.specs.Building.{tableWidth, buildRoom, Built}
 use Rattle.theory.specs.Decided as deciding
 use Rattle.theory.specs.Built as building
+use Rattle.theory.specs.Building.{tableOf}
 use Rattle.theory.specs.Areas.{statesTold, builtTold, Filled, keyCell, pathCell, decided-keys, decided-path, built-keys}
 use Rattle.theory.specs.Lengths.{decided-keys-length, decided-path-length, decided-word-length, built-keys-length, built-table-length, wrote-length}
 use Rattle.theory.specs.Buffers.{wrote-refused}
@@ -82,6 +83,13 @@ module _ (bytes : List ℕ) (keys : List ℤ) (table : List ℕ) (q : Question) 
   build-no-room-left states e =
       let x = sym (out .answer) ∙ e in
       (building.says-no-room bytes keys table q accepted states .0 x .0, rw e at build-rows, out .table ∙ building.table-kept bytes keys table q accepted states x)
+
+  pub build-built-left : (states : ℕ) → o .answer ≡ BuildAnswer.Built states
+      → (take (states * tableWidth (q .n)) (o .table) ≡ tableOf q (buildRoom q keys table))
+      × ((i a : ℕ) → states * tableWidth (q .n) ≤ i → getD (o .table) i a ≡ getD table i a)
+  build-built-left states e =
+      let handed = building.built-hands-over bytes keys table q accepted states (sym (out .answer) ∙ e) in
+      rw (out .table) (handed .filled, handed .rest)
 
 -- ---- every lent buffer keeps its length
 

@@ -1,5 +1,5 @@
 // A place in a question, opened on the caller's own bytes and moved record by record, as document 01 has it.
-// The struct holds the slice, so each function over it is thin, calls functions on plain slices, and is proved by a walk.
+// The struct holds the slice, so each function over it is thin, calls functions on plain slices, and is proved by hand, statement by statement.
 ghost use mathlib.Core.Path.{_≡_};
 ghost use Prim.Native.Nat.{_+_, _≤_};
 ghost use lib.ListN.{length};
@@ -21,6 +21,7 @@ pub struct Step<'a> {
     pub body: &'a [u8],
 }
 
+// At the first byte.
 pub fn open<'a>(bytes: &'a [u8]) -> Place<'a>
     ensures { λ r. ⌜ (r .bytes ≡ bytes .entry) × (r .at ≡ 0) ⌝ }
 {
@@ -70,6 +71,7 @@ fn body_of<'a>(bytes: &'a [u8], answer: RecordAnswer) -> &'a [u8]
     }
 }
 
+// Moves the place past the record that is there.
 pub fn take_record<'a>(place: Place<'a>) -> Step<'a>
     ensures { λ r. ⌜ Stepped (place .entry) r ⌝ }
 {

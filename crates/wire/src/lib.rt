@@ -38,6 +38,7 @@ use shape::unread;
 use writing::FormulaAnswer;
 use writing::checked;
 
+// A bare step: the record at a place, whatever its kind. Refused by 1 where its header or its body is cut.
 pub fn record_at(bytes: &[u8], at: usize) -> RecordAnswer
     ensures { λ r. ⌜ r ≡ recordAt (now (bytes .entry)) at ⌝ }
 {
@@ -154,6 +155,7 @@ fn formula_from(bytes: &[u8], at: usize, n: u8) -> ReadPart
     end_from(bytes, place, question)
 }
 
+// Reads the question that starts at a place, up to its end record. What comes after is the caller's.
 pub fn read_from(bytes: &[u8], at: usize) -> ReadPart
     ensures { λ r. ⌜ r ≡ partRead (readFrom (now (bytes .entry)) at) ⌝ }
 {
@@ -163,6 +165,7 @@ pub fn read_from(bytes: &[u8], at: usize) -> ReadPart
     }
 }
 
+// Reads a question that is all there is.
 pub fn read(bytes: &[u8]) -> Held
     ensures { λ r. ⌜ r ≡ readHeld (now (bytes .entry)) ⌝ }
 {
