@@ -36,7 +36,11 @@ mod system {
         let mut clock = 0;
         // SAFETY: the clock is borrowed exclusively; a process that there is not is refused.
         let refused = unsafe { clock_getcpuclockid(id as i32, &mut clock) };
-        if refused == 0 { told(clock) } else { None }
+        if refused == 0 {
+            told(clock)
+        } else {
+            None
+        }
     }
 }
 

@@ -172,8 +172,7 @@ fn joined(records: &[Record]) -> Vec<u8> {
     bytes
 }
 
-const KINDS: [u16; 13] =
-    [0x0001, 0x0010, 0x0011, 0x0020, 0x0021, 0x0022, 0x00FF, 0x0000, 0x0012, 0x0023, 0x0110, 0x2000, 0xFF00];
+const KINDS: [u16; 13] = [0x0001, 0x0010, 0x0011, 0x0020, 0x0021, 0x0022, 0x00FF, 0x0000, 0x0012, 0x0023, 0x0110, 0x2000, 0xFF00];
 
 fn atom_record(random: &mut Random, n: usize) -> Record {
     let mut body = Vec::new();
@@ -316,7 +315,11 @@ pub fn damaged_bytes(random: &mut Random) -> Vec<u8> {
 
 /// Valid bytes or damaged ones.
 pub fn any_bytes(random: &mut Random) -> Vec<u8> {
-    if random.one_in(2) { question_bytes(random) } else { damaged_bytes(random) }
+    if random.one_in(2) {
+        question_bytes(random)
+    } else {
+        damaged_bytes(random)
+    }
 }
 
 // Held questions

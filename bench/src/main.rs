@@ -180,7 +180,11 @@ fn transitions(questions: &[Vec<u8>]) -> usize {
 
 /// A number with its thousands apart.
 fn grouped(number: usize) -> String {
-    if number < 1_000 { number.to_string() } else { format!("{},{:03}", grouped(number / 1_000), number % 1_000) }
+    if number < 1_000 {
+        number.to_string()
+    } else {
+        format!("{},{:03}", grouped(number / 1_000), number % 1_000)
+    }
 }
 
 /// A table built whole, for running.

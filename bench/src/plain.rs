@@ -175,7 +175,11 @@ fn leftover(question: &Question, n: usize, nodes: usize, atoms: usize) -> Result
     for &k in &question.constants[atoms..] {
         left |= k;
     }
-    if left != 0 { Err(Refusal { number: 6, place: 64 }) } else { Ok(()) }
+    if left != 0 {
+        Err(Refusal { number: 6, place: 64 })
+    } else {
+        Ok(())
+    }
 }
 
 // Judging and running
@@ -466,11 +470,8 @@ pub fn decide_counted(bytes: &[u8], keys: &mut [i32], path: &mut [u16], word: &m
     let (mut index, mut at) = opened(&machine, keys);
     path[0] = 0;
     path[1] = 0;
-    let mut stop = if machine.accepts(&machine.start) {
-        Stop::Accepting
-    } else {
-        explore(&machine, &mut index, &mut at, rows, keys, Some(&mut *path))
-    };
+    let mut stop =
+        if machine.accepts(&machine.start) { Stop::Accepting } else { explore(&machine, &mut index, &mut at, rows, keys, Some(&mut *path)) };
     if stop == Stop::Crowded {
         stop = explore_large(&machine, &mut at, rows, keys, path);
     }

@@ -63,21 +63,35 @@ pub struct Refusal {
 
 #[derive(Clone, Copy, Debug, PartialEq, Eq)]
 pub enum Decision {
-    Found { states: usize, letters: usize },
-    Never { states: usize },
+    Found {
+        states: usize,
+        letters: usize,
+    },
+    Never {
+        states: usize,
+    },
     /// Refusal 7.
-    NoRoom { states: usize },
+    NoRoom {
+        states: usize,
+    },
     /// Refusal 8, with the letters that the word has.
-    WordShort { states: usize, letters: usize },
+    WordShort {
+        states: usize,
+        letters: usize,
+    },
     /// Refusals 1 to 6, from reading the question.
     Refused(Refusal),
 }
 
 #[derive(Clone, Copy, Debug, PartialEq, Eq)]
 pub enum Building {
-    Built { states: usize },
+    Built {
+        states: usize,
+    },
     /// Refusal 7.
-    NoRoom { states: usize },
+    NoRoom {
+        states: usize,
+    },
     /// Refusals 1 to 6, from reading the question.
     Refused(Refusal),
 }
@@ -364,7 +378,11 @@ pub fn meaning(question: &Question) -> Meaning {
             AND | OR => {
                 let left = Box::new(part(question, node, atoms));
                 let right = Box::new(part(question, node, atoms));
-                if code == AND { Formula::And(left, right) } else { Formula::Or(left, right) }
+                if code == AND {
+                    Formula::And(left, right)
+                } else {
+                    Formula::Or(left, right)
+                }
             }
             _ => unreachable!("a question that was read has a whole formula"),
         }
@@ -379,7 +397,11 @@ impl Meaning {
         self.formula.worth(&|i| {
             let atom = &self.atoms[i];
             let sum: i128 = atom.coefficients.iter().zip(values).map(|(&a, &x)| a as i128 * x as i128).sum();
-            if atom.equation { sum == atom.constant as i128 } else { sum <= atom.constant as i128 }
+            if atom.equation {
+                sum == atom.constant as i128
+            } else {
+                sum <= atom.constant as i128
+            }
         })
     }
 }
@@ -421,7 +443,13 @@ impl Meaning {
     pub fn accepts(&self, state: &State) -> bool {
         self.formula.worth(&|i| match state[i] {
             None => false,
-            Some(k) => if self.atoms[i].equation { k == 0 } else { k >= 0 },
+            Some(k) => {
+                if self.atoms[i].equation {
+                    k == 0
+                } else {
+                    k >= 0
+                }
+            }
         })
     }
 

@@ -9,7 +9,11 @@ use std::process::{Command, Stdio};
 use std::time::Duration;
 
 fn number(number: i64) -> String {
-    if number < 0 { format!("(- {})", -number) } else { number.to_string() }
+    if number < 0 {
+        format!("(- {})", -number)
+    } else {
+        number.to_string()
+    }
 }
 
 fn term(meaning: &Meaning, formula: &Formula) -> String {

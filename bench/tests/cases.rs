@@ -60,13 +60,7 @@ fn checked_by_hand() {
     let coconuts = question(
         6,
         &[AND, AND, AND, AND, EQUATION, EQUATION, EQUATION, EQUATION, EQUATION],
-        &[
-            &[-4, 5, 0, 0, 0, 0, 1],
-            &[0, -4, 5, 0, 0, 0, 1],
-            &[0, 0, -4, 5, 0, 0, 1],
-            &[0, 0, 0, -4, 5, 0, 1],
-            &[0, 0, 0, 0, -4, 5, 1],
-        ],
+        &[&[-4, 5, 0, 0, 0, 0, 1], &[0, -4, 5, 0, 0, 0, 1], &[0, 0, -4, 5, 0, 0, 1], &[0, 0, 0, -4, 5, 0, 1], &[0, 0, 0, 0, -4, 5, 1]],
     );
     assert_eq!(decided(&coconuts, 100), found(49, &[63]));
     assert_eq!(decided(&[], 100).0, Decision::Refused(Refusal { number: 1, place: 0 }));
@@ -85,8 +79,8 @@ fn halving() {
 #[test]
 fn asking() {
     let bytes = [
-        0x01, 0x00, 0x01, 0x00, 0x02, 0x0C, 0x00, 0x10, 0x00, 0x05, 0x00, 0x00, 0x00, 0x01, 0x00, 0x00, 0x00, 0x03, 0x00, 0x00, 0x00, 0x00,
-        0x00, 0xFF, 0x00,
+        0x01, 0x00, 0x01, 0x00, 0x02, 0x0C, 0x00, 0x10, 0x00, 0x05, 0x00, 0x00, 0x00, 0x01, 0x00, 0x00, 0x00, 0x03, 0x00, 0x00, 0x00, 0x00, 0x00,
+        0xFF, 0x00,
     ];
     assert_eq!(ask(&bytes), "verdict found\nvalues 0 3\nletters 2 2\nstates 7\n");
     let mut beyond = bytes;

@@ -211,7 +211,11 @@ fn write() {
 }
 
 fn yes_or_no(yes: bool) -> &'static str {
-    if yes { "yes" } else { "no" }
+    if yes {
+        "yes"
+    } else {
+        "no"
+    }
 }
 
 #[test]
@@ -342,7 +346,11 @@ fn build() {
 /// Now and then no n at all, or another than the one meant.
 fn handed(random: &mut Random, n: u8) -> usize {
     let n = n as usize;
-    if random.one_in(10) { random.pick(&[0, 1, 2, 6, 7, 8, 255, 256 + n, (1 << 16) + n, (1 << 32) + n, usize::MAX]) } else { n }
+    if random.one_in(10) {
+        random.pick(&[0, 1, 2, 6, 7, 8, 255, 256 + n, (1 << 16) + n, (1 << 32) + n, usize::MAX])
+    } else {
+        n
+    }
 }
 
 #[test]

@@ -78,9 +78,7 @@ fn base() {
                     "refused" => {
                         assert_eq!(fields[5], "8", "{at}");
                         // The line says no letters: they are those of the word, given room for it.
-                        let Decision::Found { letters, .. } = reading::decide(&question, &keys, &path, &[0; 1_024]).answer else {
-                            panic!("{at}")
-                        };
+                        let Decision::Found { letters, .. } = reading::decide(&question, &keys, &path, &[0; 1_024]).answer else { panic!("{at}") };
                         Decision::WordShort { states, letters }
                     }
                     other => panic!("{other}"),
