@@ -19,8 +19,8 @@ fn code(x: i32) -> usize
 }
 
 // The hash of a key: the codes of its cells, each by an odd number of its own, are added up, and then the halves of the sum. The products are
-// all under way at once, and there is no test, since past a row's own cells a key has 0. Chains are as short as by chance or shorter for
-// rows of small numbers and dead cells.
+// all under way at once, and there is no test, since past a row's own cells a key has 0. Chains are about as
+// short as by chance for rows of small numbers and dead cells.
 fn hash(key: &[i32; 8]) -> usize
     requires { ⌜ length (now key) ≡ 8 ⌝ }
     ensures { λ r. ⌜ (r ≡ hashOf (now (key .entry))) × (r < 4294967296) ⌝ }

@@ -1,1 +1,2 @@
+-- Laws that the proofs of the copying loops cite.
 pub mod Copies
