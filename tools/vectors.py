@@ -1,7 +1,8 @@
 """Writes the tables of crates/scope/specs/Vectors.antt from outside vectors: python3 tools/vectors.py VECTORS
 
 VECTORS has one call a line with its outcome. Of each call and outcome (for a refusal: of each number) the lines that
-are the quickest to compute are taken, as many as WANTED says, and of reading and writing the longest one too.
+are the quickest to compute are taken, as many as WANTED says, and of reading and writing the longest one too. The
+questions of the lines that were read or judged are put as trees besides, taken out of their bytes here.
 """
 import sys
 
@@ -90,6 +91,40 @@ def line(words):
     return f"    line ({gives}) ({should}) ∷"
 
 
+def tree(records, n):
+    """The tree that stands first in a list of (kind, body) pairs, which it is taken out of."""
+    kind, body = records.pop(0)
+    if kind in (0x10, 0x11):
+        numbers = [int.from_bytes(body[4 * i:4 * i + 4], "little", signed=True) for i in range(n + 1)]
+        cells = [whole(str(z)) for z in numbers]
+        return "(Tree.atom (record {{ kind = {}; coefficients = {}; constant = {} }}))".format(
+            "equation" if kind == 0x10 else "atMost", joined(cells[:-1]), cells[-1])
+    parts = [tree(records, n) for _ in range(1 if kind == 0x20 else 2)]
+    return "({} {})".format({0x20: "Tree.not", 0x21: "Tree.and", 0x22: "Tree.or"}[kind], " ".join(parts))
+
+
+def question_tree(text):
+    b, records, at = bytes.fromhex(text), [], 0
+    while at < len(b):
+        length = int.from_bytes(b[at:at + 2], "little")
+        records.append((int.from_bytes(b[at + 2:at + 4], "little"), b[at + 4:at + 4 + length]))
+        at += 4 + length
+    n = records.pop(0)[1][0]
+    return n, tree(records, n)
+
+
+def tree_line(words):
+    """Of an accepted question its bytes, of a judged one its truth; else nothing."""
+    call, said = words[0], words[OUTCOME[words[0]]]
+    if call == "read" and said == "accepted":
+        n, t = question_tree(words[1])
+        return f"    line (asks {n} {t}) (tree true {octets(words[1])}) ∷"
+    if call == "judge" and said in ("yes", "no"):
+        n, t = question_tree(words[1])
+        return f"    line (says {t} {joined(naturals(words[2]))}) (holding {'true' if said == 'yes' else 'false'}) ∷"
+    return None
+
+
 def cost(words):
     """What a line takes to compute: where there is a search, the rows squared times the letters; and its length."""
     search = 0
@@ -121,6 +156,8 @@ if __name__ == "__main__":
     by_call = {}
     for words in chosen(sys.argv[1]):
         by_call.setdefault(words[0], []).append(line(words))
+        if tree_line(words):
+            by_call.setdefault("tree", []).append(tree_line(words))
     with open(FILE, "w") as out:
         out.write(head + MARK)
         for call, lines in by_call.items():

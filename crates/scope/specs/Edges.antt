@@ -1,7 +1,8 @@
 -- The edges of document 01, worked by hand: of two checks that both fail the earlier one counts, each limit and the first number
--- beyond it, and running, which the outside vectors leave out. One table, one claim.
-use Prim.Native.Nat.{ℕ, _-_}
+-- beyond it, of bytes and of trees, and running, which the outside vectors leave out. One table, one claim.
+use Prim.Native.Nat.{ℕ, zero, suc, _-_}
 use mathlib.Core.Path.{_≡_, refl}
+use mathlib.Core.Bool.{true, false}
 use mathlib.Core.List.{List, [], _∷_, _++_}
 use lib.ListN.{length, replicate, set}
 use lib.IntN.{ℤ, pos, negsuc}
@@ -11,9 +12,10 @@ use Rattle.scope.specs.declared.WriteAnswer.{WriteAnswer}
 use Rattle.scope.specs.declared.TruthAnswer.{TruthAnswer}
 use Rattle.scope.specs.declared.SpellAnswer.{SpellAnswer}
 use Rattle.scope.specs.Whole.{joined}
-use Rattle.scope.specs.Question.{emptyQuestion}
+use Rattle.scope.specs.Question.{emptyQuestion, equation, atMost}
+use Rattle.scope.specs.Tree.{Tree}
 use Rattle.scope.specs.Refusals.{refusal}
-use Rattle.scope.specs.Outcomes.{Outcome, held, wroteBytes, truth, spelling, count, Line, line, given, wanted, marked, reads, writes, judges, spells, runs, bounds, running}
+use Rattle.scope.specs.Outcomes.{Outcome, held, wroteBytes, truth, spelling, count, holding, Line, line, given, wanted, marked, reads, writes, judges, spells, runs, bounds, fits, says, running}
 
 -- ---- bytes of questions over one variable
 
@@ -50,6 +52,31 @@ wide last = ands 3 ++ (part ++ (part ++ (ands 1 ++ (part ++ (part ++ nots last))
   where
     part : List ℕ
     part = nots 12 ++ atom
+
+-- ---- trees over one variable
+
+abbrev oneAtom : ℤ → ℤ → Tree
+oneAtom a k = Tree.atom (record { kind = equation; coefficients = a ∷ []; constant = k })
+
+-- x <= k
+abbrev upTo : ℕ → Tree
+upTo k = Tree.atom (record { kind = atMost; coefficients = pos 1 ∷ []; constant = pos k })
+
+abbrev under : ℕ → Tree → Tree
+under zero t = t
+under (suc k) t = Tree.not (under k t)
+
+-- as many atoms
+abbrev chain : ℕ → Tree
+chain zero = oneAtom (pos 0) (pos 0)
+chain (suc k) = Tree.and (oneAtom (pos 0) (pos 0)) (chain k)
+
+-- 60 nodes, and the last nots
+abbrev broad : ℕ → Tree
+broad last = Tree.or (Tree.or (under 13 x) (under 13 x)) (Tree.or (under 13 x) (Tree.or (under 12 x) (under last x)))
+  where
+    x : Tree
+    x = oneAtom (pos 0) (pos 0)
 
 -- ---- outcomes
 
@@ -154,6 +181,39 @@ edges =
     line (runs 1 nought (0 ∷ 0 ∷ [])) (truth TruthAnswer.Yes) ∷
     line (runs 1 nought (0 ∷ 1 ∷ 0 ∷ [])) (truth TruthAnswer.No) ∷
     line (runs 1 nought (replicate 99 0)) (truth TruthAnswer.Yes) ∷
+    -- a tree: each limit, and the first number beyond it
+    line (fits 0 (Tree.atom (record { kind = equation; coefficients = []; constant = pos 0 }))) (holding false) ∷
+    line (fits 1 (oneAtom (pos 0) (pos 0))) (holding true) ∷
+    line (fits 2 (oneAtom (pos 0) (pos 0))) (holding false) ∷
+    line (fits 6 (Tree.atom (record { kind = atMost; coefficients = replicate 6 (pos 0); constant = pos 0 }))) (holding true) ∷
+    line (fits 7 (Tree.atom (record { kind = atMost; coefficients = replicate 7 (pos 0); constant = pos 0 }))) (holding false) ∷
+    line (fits 1 (under 15 (oneAtom (pos 0) (pos 0)))) (holding true) ∷
+    line (fits 1 (under 16 (oneAtom (pos 0) (pos 0)))) (holding false) ∷
+    line (fits 1 (Tree.and (under 15 (oneAtom (pos 0) (pos 0))) (oneAtom (pos 0) (pos 0)))) (holding false) ∷
+    line (fits 1 (Tree.or (oneAtom (pos 0) (pos 0)) (under 15 (oneAtom (pos 0) (pos 0))))) (holding false) ∷
+    line (fits 1 (chain 7)) (holding true) ∷
+    line (fits 1 (chain 8)) (holding false) ∷
+    line (fits 1 (broad 4)) (holding true) ∷
+    line (fits 1 (broad 5)) (holding false) ∷
+    line (fits 1 (oneAtom (pos 4096) (pos 1000000))) (holding true) ∷
+    line (fits 1 (oneAtom (negsuc 4095) (negsuc 999999))) (holding true) ∷
+    line (fits 1 (oneAtom (pos 4097) (pos 0))) (holding false) ∷
+    line (fits 1 (oneAtom (negsuc 4096) (pos 0))) (holding false) ∷
+    line (fits 1 (oneAtom (pos 0) (pos 1000001))) (holding false) ∷
+    line (fits 1 (oneAtom (pos 0) (negsuc 1000000))) (holding false) ∷
+    line (fits 1 (Tree.and (oneAtom (pos 0) (pos 0)) (oneAtom (pos 4097) (pos 0)))) (holding false) ∷
+    -- what it says: each connective with each truth of its parts
+    line (says (upTo 5) (5 ∷ [])) (holding true) ∷
+    line (says (upTo 5) (6 ∷ [])) (holding false) ∷
+    line (says (oneAtom (negsuc 0) (negsuc 4)) (5 ∷ [])) (holding true) ∷
+    line (says (Tree.not (upTo 5)) (6 ∷ [])) (holding true) ∷
+    line (says (Tree.not (upTo 5)) (5 ∷ [])) (holding false) ∷
+    line (says (Tree.and (upTo 5) (upTo 7)) (5 ∷ [])) (holding true) ∷
+    line (says (Tree.and (upTo 5) (upTo 7)) (6 ∷ [])) (holding false) ∷
+    line (says (Tree.and (upTo 7) (upTo 5)) (6 ∷ [])) (holding false) ∷
+    line (says (Tree.or (upTo 5) (upTo 7)) (6 ∷ [])) (holding true) ∷
+    line (says (Tree.or (upTo 7) (upTo 5)) (6 ∷ [])) (holding true) ∷
+    line (says (Tree.or (upTo 5) (upTo 7)) (8 ∷ [])) (holding false) ∷
     -- the bound: of 0x = 0 one number and dead; of x <= 1000000, from -1 on, no dead
     line (bounds (head ++ (atom ++ end))) (count 2) ∷
     line (bounds (head ++ ((8 ∷ 0 ∷ 0x11 ∷ 0 ∷ 1 ∷ 0 ∷ 0 ∷ 0 ∷ 0x40 ∷ 0x42 ∷ 0x0F ∷ 0 ∷ []) ++ end))) (count 1000002) ∷

@@ -8,6 +8,7 @@ pub mod Wire
 pub mod Writing
 pub mod Words
 pub mod States
+pub mod Tree
 pub mod Bound
 pub mod Numbering
 pub mod Deciding

@@ -1,6 +1,7 @@
 -- What the worked examples and the outside vectors compare: each call's outcome on buffers whose cells are marked, so that a cell
 -- that should stay as it was is seen to.
 use Prim.Native.Nat.{ℕ, _*_}
+use mathlib.Core.Bool.{Bool}
 use mathlib.Core.List.{List, map}
 use lib.ListN.{replicate}
 use lib.IntN.{ℤ, pos}
@@ -18,6 +19,7 @@ use Rattle.scope.specs.Wire.{numbersAt, recordAt, grown, headRead, noted
 use Rattle.scope.specs.Writing.{atomBody, nodeBytes, headWritten, nodeWritten, partWritten, codeChecks, numbersClear, leftOver, endWritten, written, Wrote, wrote}
 use Rattle.scope.specs.Words.{digit, letterOf, valueFrom, value, valuesFrom, spelled, spelt}
 use Rattle.scope.specs.States.{cellOf, sameEntry, sumFrom, sumAt, startEntry, stepEntry, worth, startOf, stepOf, worthsOf, sameState, cellsOf, settled, formulaWorth, accepting, dot, holds, satisfied}
+use Rattle.scope.specs.Tree.{Tree, nodesIn, atomsIn, depthOf, atomFits, withinLimits, treeBytes, questionBytes, rowOf, trueFor}
 use Rattle.scope.specs.Bound.{positives, negatives, lowest, highest, entryCount, product, bound}
 use Rattle.scope.specs.Numbering.{machineOf, firstIf, after, startRow, has, addedIf, tried, triedAll, expandedIf, numbered, wordWithin, wordOf, firstAccepting, numberIf, numberOf}
 use Rattle.scope.specs.Deciding.{verdict, decideRoom, keyCells, pathCells, decidedQuestion, Decided, decided}
@@ -34,6 +36,8 @@ pub data Outcome : Type 0 where
   spelling : SpellAnswer → Outcome
   number : ℤ → Outcome
   count : ℕ → Outcome
+  tree : Bool → List ℕ → Outcome
+  holding : Bool → Outcome
 
 -- a line of a table: what the definitions give, and what they should
 pub record Line : Type 0 where
@@ -98,7 +102,18 @@ halves z = number (half z)
 abbrev pub bounds : List ℕ → Outcome
 bounds bytes = count (bound (readHeld bytes .question))
 
+-- ---- a tree: whether it is within the limits, and its bytes; what it says of naturals
+
+abbrev pub asks : ℕ → Tree → Outcome
+asks n t = tree (withinLimits n t) (questionBytes n t)
+
+abbrev pub fits : ℕ → Tree → Outcome
+fits n t = holding (withinLimits n t)
+
+abbrev pub says : Tree → List ℕ → Outcome
+says t values = holding (trueFor t values)
+
 -- what has to unfold for the definitions to run
 unfoldable pub running : Unit {0}
-unfolding all allFrom joined atFront numbersFit nodesOf coefficientsOf constantOf kindsOf atomsFrom atomsOf atomCount firstRefusal onward numbersAt recordAt grown headRead noted nodeRead endRead recordRead readFrom wholeRead readHeld atomBody nodeBytes headWritten nodeWritten partWritten codeChecks numbersClear leftOver endWritten written wrote digit letterOf valueFrom value valuesFrom spelled spelt cellOf sameEntry sumFrom sumAt startEntry stepEntry worth startOf stepOf worthsOf sameState cellsOf settled formulaWorth accepting dot holds satisfied positives negatives lowest highest entryCount product bound machineOf firstIf after startRow has addedIf tried triedAll expandedIf numbered wordWithin wordOf firstAccepting numberIf numberOf verdict decideRoom keyCells pathCells decidedQuestion decided nextStates tableRow tableCells buildRoom builtQuestion built tableFits rowAfter saysYes ran judgedQuestion judged
+unfolding all allFrom joined atFront numbersFit nodesOf coefficientsOf constantOf kindsOf atomsFrom atomsOf atomCount firstRefusal onward numbersAt recordAt grown headRead noted nodeRead endRead recordRead readFrom wholeRead readHeld atomBody nodeBytes headWritten nodeWritten partWritten codeChecks numbersClear leftOver endWritten written wrote digit letterOf valueFrom value valuesFrom spelled spelt cellOf sameEntry sumFrom sumAt startEntry stepEntry worth startOf stepOf worthsOf sameState cellsOf settled formulaWorth accepting dot holds satisfied nodesIn atomsIn depthOf atomFits withinLimits treeBytes questionBytes rowOf trueFor positives negatives lowest highest entryCount product bound machineOf firstIf after startRow has addedIf tried triedAll expandedIf numbered wordWithin wordOf firstAccepting numberIf numberOf verdict decideRoom keyCells pathCells decidedQuestion decided nextStates tableRow tableCells buildRoom builtQuestion built tableFits rowAfter saysYes ran judgedQuestion judged
 running = tt

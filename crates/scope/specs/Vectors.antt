@@ -2,6 +2,7 @@
 -- outcome. tools/vectors.py chose and wrote them; docs/DECISIONS.md says how.
 use Prim.Native.Nat.{ℕ, _-_}
 use mathlib.Core.Path.{_≡_, refl}
+use mathlib.Core.Bool.{true, false}
 use mathlib.Core.List.{List, [], _∷_, _++_}
 use lib.ListN.{length, replicate}
 use lib.IntN.{ℤ, pos, negsuc}
@@ -13,9 +14,10 @@ use Rattle.scope.specs.declared.TruthAnswer.{TruthAnswer}
 use Rattle.scope.specs.declared.DecideAnswer.{DecideAnswer}
 use Rattle.scope.specs.declared.BuildAnswer.{BuildAnswer}
 use Rattle.scope.specs.declared.SpellAnswer.{SpellAnswer}
-use Rattle.scope.specs.Question.{emptyQuestion}
+use Rattle.scope.specs.Question.{emptyQuestion, equation, atMost}
+use Rattle.scope.specs.Tree.{Tree}
 use Rattle.scope.specs.Refusals.{refusal}
-use Rattle.scope.specs.Outcomes.{Outcome, held, wroteBytes, truth, decision, table, spelling, count, Line, line, given, wanted, marked, reads, writes, judges, decidedIn, decides, builtIn, spells, running}
+use Rattle.scope.specs.Outcomes.{Outcome, held, wroteBytes, truth, decision, table, spelling, count, tree, holding, Line, line, given, wanted, marked, reads, writes, judges, decidedIn, decides, builtIn, spells, asks, says, running}
 
 -- a held question, whose lists are given without the zeros at their ends
 abbrev question : ℕ → List ℕ → List ℤ → List ℤ → Question
@@ -138,6 +140,33 @@ judgeVectors =
 pub judge-vectors-hold : given judgeVectors ≡ wanted judgeVectors
 unfolding running
 judge-vectors-hold = refl
+
+abbrev treeVectors : List Line
+treeVectors =
+    line (says (Tree.atom (record { kind = atMost; coefficients = (pos 3 ∷ []); constant = pos 2 })) (5 ∷ [])) (holding false) ∷
+    line (says (Tree.atom (record { kind = atMost; coefficients = (negsuc 7 ∷ []); constant = negsuc 77 })) (0 ∷ [])) (holding false) ∷
+    line (says (Tree.atom (record { kind = atMost; coefficients = (pos 2 ∷ []); constant = negsuc 2 })) (1 ∷ [])) (holding false) ∷
+    line (says (Tree.atom (record { kind = equation; coefficients = (pos 0 ∷ negsuc 0 ∷ []); constant = negsuc 3272 })) (0 ∷ 2 ∷ [])) (holding false) ∷
+    line (says (Tree.atom (record { kind = atMost; coefficients = (pos 0 ∷ pos 4 ∷ negsuc 0 ∷ []); constant = pos 0 })) (5 ∷ 2 ∷ 0 ∷ [])) (holding false) ∷
+    line (says (Tree.atom (record { kind = equation; coefficients = (negsuc 2551 ∷ pos 844 ∷ negsuc 2054 ∷ []); constant = negsuc 0 })) (1 ∷ 1 ∷ 0 ∷ [])) (holding false) ∷
+    line (says (Tree.atom (record { kind = atMost; coefficients = (negsuc 1 ∷ []); constant = pos 13 })) (2 ∷ [])) (holding true) ∷
+    line (says (Tree.atom (record { kind = atMost; coefficients = (pos 5 ∷ []); constant = pos 8 })) (1 ∷ [])) (holding true) ∷
+    line (says (Tree.not (Tree.atom (record { kind = equation; coefficients = (pos 18 ∷ []); constant = pos 18 }))) (5 ∷ [])) (holding true) ∷
+    line (says (Tree.atom (record { kind = atMost; coefficients = (pos 2 ∷ negsuc 0 ∷ negsuc 0 ∷ []); constant = negsuc 5 })) (1 ∷ 5 ∷ 468790447652 ∷ [])) (holding true) ∷
+    line (says (Tree.or (Tree.atom (record { kind = equation; coefficients = (pos 45 ∷ []); constant = pos 1641 })) (Tree.atom (record { kind = atMost; coefficients = (pos 108 ∷ []); constant = pos 1986 }))) (1 ∷ [])) (holding true) ∷
+    line (says (Tree.atom (record { kind = atMost; coefficients = (negsuc 0 ∷ pos 2 ∷ pos 0 ∷ []); constant = pos 81 })) (1099511627775 ∷ 2 ∷ 1 ∷ [])) (holding true) ∷
+    line (asks 3 (Tree.atom (record { kind = atMost; coefficients = (pos 1 ∷ negsuc 2 ∷ pos 2 ∷ []); constant = negsuc 1 }))) (tree true (1 ∷ 0 ∷ 1 ∷ 0 ∷ 3 ∷ 16 ∷ 0 ∷ 17 ∷ 0 ∷ 1 ∷ 0 ∷ 0 ∷ 0 ∷ 253 ∷ 255 ∷ 255 ∷ 255 ∷ 2 ∷ 0 ∷ 0 ∷ 0 ∷ 254 ∷ 255 ∷ 255 ∷ 255 ∷ 0 ∷ 0 ∷ 255 ∷ 0 ∷ [])) ∷
+    line (asks 3 (Tree.atom (record { kind = atMost; coefficients = (negsuc 1 ∷ pos 0 ∷ pos 0 ∷ []); constant = negsuc 1 }))) (tree true (1 ∷ 0 ∷ 1 ∷ 0 ∷ 3 ∷ 16 ∷ 0 ∷ 17 ∷ 0 ∷ 254 ∷ 255 ∷ 255 ∷ 255 ∷ 0 ∷ 0 ∷ 0 ∷ 0 ∷ 0 ∷ 0 ∷ 0 ∷ 0 ∷ 254 ∷ 255 ∷ 255 ∷ 255 ∷ 0 ∷ 0 ∷ 255 ∷ 0 ∷ [])) ∷
+    line (asks 3 (Tree.and (Tree.atom (record { kind = equation; coefficients = (negsuc 0 ∷ pos 0 ∷ pos 4 ∷ []); constant = pos 232 })) (Tree.atom (record { kind = atMost; coefficients = (negsuc 2 ∷ pos 2 ∷ negsuc 3 ∷ []); constant = pos 1 })))) (tree true (1 ∷ 0 ∷ 1 ∷ 0 ∷ 3 ∷ 0 ∷ 0 ∷ 33 ∷ 0 ∷ 16 ∷ 0 ∷ 16 ∷ 0 ∷ 255 ∷ 255 ∷ 255 ∷ 255 ∷ 0 ∷ 0 ∷ 0 ∷ 0 ∷ 4 ∷ 0 ∷ 0 ∷ 0 ∷ 232 ∷ 0 ∷ 0 ∷ 0 ∷ 16 ∷ 0 ∷ 17 ∷ 0 ∷ 253 ∷ 255 ∷ 255 ∷ 255 ∷ 2 ∷ 0 ∷ 0 ∷ 0 ∷ 252 ∷ 255 ∷ 255 ∷ 255 ∷ 1 ∷ 0 ∷ 0 ∷ 0 ∷ 0 ∷ 0 ∷ 255 ∷ 0 ∷ [])) ∷
+    line (asks 1 (Tree.and (Tree.atom (record { kind = atMost; coefficients = (negsuc 29 ∷ []); constant = negsuc 0 })) (Tree.not (Tree.and (Tree.atom (record { kind = atMost; coefficients = (pos 2 ∷ []); constant = negsuc 1 })) (Tree.atom (record { kind = atMost; coefficients = (negsuc 1 ∷ []); constant = pos 1 })))))) (tree true (1 ∷ 0 ∷ 1 ∷ 0 ∷ 1 ∷ 0 ∷ 0 ∷ 33 ∷ 0 ∷ 8 ∷ 0 ∷ 17 ∷ 0 ∷ 226 ∷ 255 ∷ 255 ∷ 255 ∷ 255 ∷ 255 ∷ 255 ∷ 255 ∷ 0 ∷ 0 ∷ 32 ∷ 0 ∷ 0 ∷ 0 ∷ 33 ∷ 0 ∷ 8 ∷ 0 ∷ 17 ∷ 0 ∷ 2 ∷ 0 ∷ 0 ∷ 0 ∷ 254 ∷ 255 ∷ 255 ∷ 255 ∷ 8 ∷ 0 ∷ 17 ∷ 0 ∷ 254 ∷ 255 ∷ 255 ∷ 255 ∷ 1 ∷ 0 ∷ 0 ∷ 0 ∷ 0 ∷ 0 ∷ 255 ∷ 0 ∷ [])) ∷
+    line (asks 3 (Tree.not (Tree.not (Tree.and (Tree.atom (record { kind = atMost; coefficients = (pos 2 ∷ pos 2 ∷ negsuc 2 ∷ []); constant = pos 0 })) (Tree.atom (record { kind = equation; coefficients = (pos 1 ∷ pos 0 ∷ negsuc 0 ∷ []); constant = pos 1 })))))) (tree true (1 ∷ 0 ∷ 1 ∷ 0 ∷ 3 ∷ 0 ∷ 0 ∷ 32 ∷ 0 ∷ 0 ∷ 0 ∷ 32 ∷ 0 ∷ 0 ∷ 0 ∷ 33 ∷ 0 ∷ 16 ∷ 0 ∷ 17 ∷ 0 ∷ 2 ∷ 0 ∷ 0 ∷ 0 ∷ 2 ∷ 0 ∷ 0 ∷ 0 ∷ 253 ∷ 255 ∷ 255 ∷ 255 ∷ 0 ∷ 0 ∷ 0 ∷ 0 ∷ 16 ∷ 0 ∷ 16 ∷ 0 ∷ 1 ∷ 0 ∷ 0 ∷ 0 ∷ 0 ∷ 0 ∷ 0 ∷ 0 ∷ 255 ∷ 255 ∷ 255 ∷ 255 ∷ 1 ∷ 0 ∷ 0 ∷ 0 ∷ 0 ∷ 0 ∷ 255 ∷ 0 ∷ [])) ∷
+    line (asks 3 (Tree.or (Tree.atom (record { kind = equation; coefficients = (pos 0 ∷ pos 2 ∷ pos 4 ∷ []); constant = pos 1 })) (Tree.not (Tree.not (Tree.not (Tree.atom (record { kind = atMost; coefficients = (pos 2 ∷ pos 0 ∷ negsuc 1 ∷ []); constant = pos 0 }))))))) (tree true (1 ∷ 0 ∷ 1 ∷ 0 ∷ 3 ∷ 0 ∷ 0 ∷ 34 ∷ 0 ∷ 16 ∷ 0 ∷ 16 ∷ 0 ∷ 0 ∷ 0 ∷ 0 ∷ 0 ∷ 2 ∷ 0 ∷ 0 ∷ 0 ∷ 4 ∷ 0 ∷ 0 ∷ 0 ∷ 1 ∷ 0 ∷ 0 ∷ 0 ∷ 0 ∷ 0 ∷ 32 ∷ 0 ∷ 0 ∷ 0 ∷ 32 ∷ 0 ∷ 0 ∷ 0 ∷ 32 ∷ 0 ∷ 16 ∷ 0 ∷ 17 ∷ 0 ∷ 2 ∷ 0 ∷ 0 ∷ 0 ∷ 0 ∷ 0 ∷ 0 ∷ 0 ∷ 254 ∷ 255 ∷ 255 ∷ 255 ∷ 0 ∷ 0 ∷ 0 ∷ 0 ∷ 0 ∷ 0 ∷ 255 ∷ 0 ∷ [])) ∷
+    line (asks 4 (Tree.or (Tree.and (Tree.atom (record { kind = atMost; coefficients = (pos 1 ∷ negsuc 2 ∷ pos 2 ∷ negsuc 1 ∷ []); constant = pos 8 })) (Tree.not (Tree.or (Tree.not (Tree.atom (record { kind = atMost; coefficients = (negsuc 0 ∷ negsuc 0 ∷ pos 0 ∷ negsuc 1 ∷ []); constant = negsuc 19 }))) (Tree.not (Tree.not (Tree.not (Tree.not (Tree.not (Tree.or (Tree.atom (record { kind = equation; coefficients = (negsuc 1 ∷ negsuc 0 ∷ pos 0 ∷ negsuc 1 ∷ []); constant = pos 18 })) (Tree.not (Tree.atom (record { kind = equation; coefficients = (negsuc 0 ∷ pos 2 ∷ negsuc 1 ∷ pos 0 ∷ []); constant = negsuc 15 })))))))))))) (Tree.not (Tree.not (Tree.and (Tree.and (Tree.not (Tree.atom (record { kind = atMost; coefficients = (negsuc 0 ∷ negsuc 0 ∷ pos 0 ∷ negsuc 1 ∷ []); constant = negsuc 15 }))) (Tree.atom (record { kind = equation; coefficients = (pos 0 ∷ pos 1 ∷ negsuc 1 ∷ negsuc 0 ∷ []); constant = negsuc 16 }))) (Tree.and (Tree.atom (record { kind = atMost; coefficients = (negsuc 1 ∷ negsuc 1 ∷ pos 1 ∷ pos 1 ∷ []); constant = pos 0 })) (Tree.not (Tree.atom (record { kind = atMost; coefficients = (pos 3 ∷ negsuc 1 ∷ negsuc 0 ∷ pos 2 ∷ []); constant = pos 6 }))))))))) (tree true (1 ∷ 0 ∷ 1 ∷ 0 ∷ 4 ∷ 0 ∷ 0 ∷ 34 ∷ 0 ∷ 0 ∷ 0 ∷ 33 ∷ 0 ∷ 20 ∷ 0 ∷ 17 ∷ 0 ∷ 1 ∷ 0 ∷ 0 ∷ 0 ∷ 253 ∷ 255 ∷ 255 ∷ 255 ∷ 2 ∷ 0 ∷ 0 ∷ 0 ∷ 254 ∷ 255 ∷ 255 ∷ 255 ∷ 8 ∷ 0 ∷ 0 ∷ 0 ∷ 0 ∷ 0 ∷ 32 ∷ 0 ∷ 0 ∷ 0 ∷ 34 ∷ 0 ∷ 0 ∷ 0 ∷ 32 ∷ 0 ∷ 20 ∷ 0 ∷ 17 ∷ 0 ∷ 255 ∷ 255 ∷ 255 ∷ 255 ∷ 255 ∷ 255 ∷ 255 ∷ 255 ∷ 0 ∷ 0 ∷ 0 ∷ 0 ∷ 254 ∷ 255 ∷ 255 ∷ 255 ∷ 236 ∷ 255 ∷ 255 ∷ 255 ∷ 0 ∷ 0 ∷ 32 ∷ 0 ∷ 0 ∷ 0 ∷ 32 ∷ 0 ∷ 0 ∷ 0 ∷ 32 ∷ 0 ∷ 0 ∷ 0 ∷ 32 ∷ 0 ∷ 0 ∷ 0 ∷ 32 ∷ 0 ∷ 0 ∷ 0 ∷ 34 ∷ 0 ∷ 20 ∷ 0 ∷ 16 ∷ 0 ∷ 254 ∷ 255 ∷ 255 ∷ 255 ∷ 255 ∷ 255 ∷ 255 ∷ 255 ∷ 0 ∷ 0 ∷ 0 ∷ 0 ∷ 254 ∷ 255 ∷ 255 ∷ 255 ∷ 18 ∷ 0 ∷ 0 ∷ 0 ∷ 0 ∷ 0 ∷ 32 ∷ 0 ∷ 20 ∷ 0 ∷ 16 ∷ 0 ∷ 255 ∷ 255 ∷ 255 ∷ 255 ∷ 2 ∷ 0 ∷ 0 ∷ 0 ∷ 254 ∷ 255 ∷ 255 ∷ 255 ∷ 0 ∷ 0 ∷ 0 ∷ 0 ∷ 240 ∷ 255 ∷ 255 ∷ 255 ∷ 0 ∷ 0 ∷ 32 ∷ 0 ∷ 0 ∷ 0 ∷ 32 ∷ 0 ∷ 0 ∷ 0 ∷ 33 ∷ 0 ∷ 0 ∷ 0 ∷ 33 ∷ 0 ∷ 0 ∷ 0 ∷ 32 ∷ 0 ∷ 20 ∷ 0 ∷ 17 ∷ 0 ∷ 255 ∷ 255 ∷ 255 ∷ 255 ∷ 255 ∷ 255 ∷ 255 ∷ 255 ∷ 0 ∷ 0 ∷ 0 ∷ 0 ∷ 254 ∷ 255 ∷ 255 ∷ 255 ∷ 240 ∷ 255 ∷ 255 ∷ 255 ∷ 20 ∷ 0 ∷ 16 ∷ 0 ∷ 0 ∷ 0 ∷ 0 ∷ 0 ∷ 1 ∷ 0 ∷ 0 ∷ 0 ∷ 254 ∷ 255 ∷ 255 ∷ 255 ∷ 255 ∷ 255 ∷ 255 ∷ 255 ∷ 239 ∷ 255 ∷ 255 ∷ 255 ∷ 0 ∷ 0 ∷ 33 ∷ 0 ∷ 20 ∷ 0 ∷ 17 ∷ 0 ∷ 254 ∷ 255 ∷ 255 ∷ 255 ∷ 254 ∷ 255 ∷ 255 ∷ 255 ∷ 1 ∷ 0 ∷ 0 ∷ 0 ∷ 1 ∷ 0 ∷ 0 ∷ 0 ∷ 0 ∷ 0 ∷ 0 ∷ 0 ∷ 0 ∷ 0 ∷ 32 ∷ 0 ∷ 20 ∷ 0 ∷ 17 ∷ 0 ∷ 3 ∷ 0 ∷ 0 ∷ 0 ∷ 254 ∷ 255 ∷ 255 ∷ 255 ∷ 255 ∷ 255 ∷ 255 ∷ 255 ∷ 2 ∷ 0 ∷ 0 ∷ 0 ∷ 6 ∷ 0 ∷ 0 ∷ 0 ∷ 0 ∷ 0 ∷ 255 ∷ 0 ∷ [])) ∷
+    []
+
+pub tree-vectors-hold : given treeVectors ≡ wanted treeVectors
+unfolding running
+tree-vectors-hold = refl
 
 abbrev readVectors : List Line
 readVectors =
