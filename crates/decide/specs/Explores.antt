@@ -14,7 +14,7 @@ use Rattle.scope.specs.declared.Question.{Question}
 use Rattle.scope.specs.declared.DecideAnswer.{DecideAnswer}
 use Rattle.scope.specs.Whole.{joined, atFront}
 use Rattle.scope.specs.Question.{atomsOf, atomCount}
-use Rattle.scope.specs.States.{State, cellsOf, startOf}
+use Rattle.scope.specs.States.{State, cellsOf, startOf, satisfied}
 use Rattle.scope.specs.Numbering.{Row, Rows, machineOf, startRow, row}
 use Rattle.scope.specs.Deciding.{Verdict, found, never, noRoom, counted, decideRoom, keyCells, pathCells, decideAnswer, wordAfter, decidedQuestion}
 use Rattle.theory.specs.Lawful.{machine-lawful}
@@ -93,7 +93,7 @@ module _ {q : Question} {kinds : List ℕ} {m rows : ℕ} {keys₀ : List ℤ} {
   few-letters = pow-mono (ask .limits .variables)
 
   module _ (w : ℕ) (is-found : verdictOf q rows ≡ found w) where
-    at : FoundAt q rows w
+    at : FoundAt q (satisfied q) rows w
     at = found-exactly q rows w .0 is-found
 
     rooted : Rooted (machineOf q) (rowsOf q rows)

@@ -1,6 +1,5 @@
--- Bytes are accepted exactly if they are the written bytes of a held question; and what holds of every question that was read.
-use mathlib.Core.Path.{_≡_, refl, sym, ap, _∙_, subst}
-use mathlib.Core.Logic.{_↔_}
+-- What holds of every held question that was read.
+use mathlib.Core.Path.{_≡_, refl, sym, ap, subst}
 use mathlib.Core.List.{List, []}
 use Prim.Native.Nat.{ℕ, _≤_, _<_}
 use native.Mathlib.Omega.{arith}
@@ -8,50 +7,15 @@ use lib.Dec.{T}
 use lib.ListN.{length}
 use Rattle.scope.specs.declared.Question.{Question}
 use Rattle.scope.specs.declared.ReadAnswer.{ReadAnswer}
-use Rattle.scope.specs.declared.Held.{Held}
 use Rattle.scope.specs.Sizes.{numbersFit}
 use Rattle.scope.specs.Question.{nodesOf, kindsOf, coefficientsOf, constantOf}
 use Rattle.scope.specs.Refusals.{Progress, stopped, going, ended}
 use Rattle.scope.specs.Wire.{Shape, Reading, Ended, recordRead, readFrom, wholeRead, heldOf, readHeld}
-use Rattle.scope.specs.Writing.{Walk, written}
 use Rattle.theory.specs.Lockstep.{kept-onward}
-use Rattle.theory.specs.Octets.{Octets}
 use Rattle.theory.specs.Held.{Sized, empty-sized}
 use Rattle.theory.specs.ReadingSteps.{afterHead, EndStep, going-record, ended-record}
 use Rattle.theory.specs.Sound.{Sound, variables-range, sound-head, sound-step}
 use Rattle.theory.specs.Wholes.{ReadWhole, read-whole, whole-read, whole-ended, AcceptedWhole, accepted-whole}
-use Rattle.theory.specs.ReadWritten.{read-written}
-use Rattle.theory.specs.WrittenRead.{WrittenBack, written-read}
-
--- ---- the bytes
-
-pub record WrittenAs (b : List ℕ) : Type 0 where
-  pub question : Question
-  pub walk : Walk
-  pub sized : Sized question
-  pub accepted : written question ≡ ended walk
-  pub bytes : walk .bytes ≡ b
-
-pub written-accepted : (b : List ℕ) → WrittenAs b → readHeld b .answer ≡ ReadAnswer.Accepted
-written-accepted b w = subst (λ (l : List ℕ). readHeld l .answer ≡ ReadAnswer.Accepted) (w .bytes)
-    (ap (λ (h : Held). h .answer) (read-written (w .question) (w .walk) (w .sized) (w .accepted)))
-
-pub accepted-iff : (b : List ℕ) → Octets b → (readHeld b .answer ≡ ReadAnswer.Accepted) ↔ WrittenAs b
-accepted-iff b o = (from-accepted, written-accepted b)
-  where
-    from-accepted : readHeld b .answer ≡ ReadAnswer.Accepted → WrittenAs b
-    from-accepted e =
-        let w : WrittenBack b (readHeld b .question) = written-read b o e in
-        record { question = readHeld b .question; walk = w .walk; sized = w .sized; accepted = w .written; bytes = w .bytes }
-
--- the same bytes are written of one question only
-pub written-one : (p q : Question) (v w : Walk) → Sized p → Sized q → written p ≡ ended v → written q ≡ ended w → v .bytes ≡ w .bytes → p ≡ q
-written-one p q v w zp zq ep eq e =
-    sym (ap (λ (h : Held). h .question) (read-written p v zp ep))
-    ∙ ap (λ (l : List ℕ). readHeld l .question) e
-    ∙ ap (λ (h : Held). h .question) (read-written q w zq eq)
-
--- ---- the question
 
 pub record ReadSound (q : Question) : Type 0 where
   pub shape : Shape

@@ -35,33 +35,33 @@ truth-yes true = (λ e. refl, λ e. refl)
 truth-yes false = (λ e. cc, λ e. cc)
 
 -- the values that the judge takes: n of them, each at most 2 ^ 40 - 1
-pub record Taken (q : Question) (values : List ℕ) : Type 0 where
-  pub count : length values ≡ q .n
+pub record Taken (n : ℕ) (values : List ℕ) : Type 0 where
+  pub count : length values ≡ n
   pub small : Over (2 ^ 40) values
 
 module _ (q : Question) (values : List ℕ) where
-  pub judged-truth : Taken q values → judgedQuestion q values ≡ truthOf (satisfied q values)
+  pub judged-truth : Taken (q .n) values → judgedQuestion q values ≡ truthOf (satisfied q values)
   unfolding judgedQuestion firstRefusal
   judged-truth t =
       rw (t .count, is-true (eqb (q .n) (q .n)) (eqb-refl (q .n)), is-true (all (λ v. leb v mostValue) values) (values-at-most mostValue values .1 (t .small)))
 
-  pub word-over : Taken q values → Over (letters (q .n)) (wordOfValues 40 values)
+  pub word-over : Taken (q .n) values → Over (letters (q .n)) (wordOfValues 40 values)
   word-over t = rw (t .count) at (wordOfValues-over 40 values)
 
-  pub word-spells : Taken q values → spelled (q .n) (wordOfValues 40 values) ≡ values
+  pub word-spells : Taken (q .n) values → spelled (q .n) (wordOfValues 40 values) ≡ values
   word-spells t = rw (t .count) at (wordOfValues-spells 40 values (t .small))
 
   -- by the machine
-  pub judged-machine : Taken q values → judgedQuestion q values ≡ truthOf (machineOf q .accepts (after (machineOf q) (machineOf q .start) (wordOfValues 40 values)))
+  pub judged-machine : Taken (q .n) values → judgedQuestion q values ≡ truthOf (machineOf q .accepts (after (machineOf q) (machineOf q .start) (wordOfValues 40 values)))
   judged-machine t = judged-truth t ∙ ap truthOf (sym (values-mean q 40 values (t .count) (t .small)))
 
   -- by the table
-  pub judged-table : Taken q values → T (variablesFit (q .n)) → (r : ℕ) → length (rowsOf q r) ≤ r → length (rowsOf q r) ≤ mostStates
+  pub judged-table : Taken (q .n) values → T (variablesFit (q .n)) → (r : ℕ) → length (rowsOf q r) ≤ r → length (rowsOf q r) ≤ mostStates
       → judgedQuestion q values ≡ ran (q .n) (tableOf q r) (wordOfValues 40 values)
   judged-table t v r room few = judged-truth t ∙ sym (rw (word-spells t) at (table-answers q r room v few (word-over t)))
 
   -- other values are refused
-  pub judged-refused : ¬ Taken q values → judgedQuestion q values ≡ TruthAnswer.Refused (refusal 9 0)
+  pub judged-refused : ¬ Taken (q .n) values → judgedQuestion q values ≡ TruthAnswer.Refused (refusal 9 0)
   unfolding judgedQuestion firstRefusal
   judged-refused n = go (eqb (length values) (q .n)) (all (λ v. leb v mostValue) values) refl refl
     where
@@ -79,7 +79,7 @@ module _ (bytes values : List ℕ) (q : Question) (accepted : readHeld bytes ≡
   judged-accepted = rw accepted
 
   -- judging the bytes agrees with the table that the same bytes build
-  pub judged-built : Taken q values → (keys : List ℤ) (table : List ℕ) (states : ℕ) → built bytes keys table .answer ≡ BuildAnswer.Built states
+  pub judged-built : Taken (q .n) values → (keys : List ℤ) (table : List ℕ) (states : ℕ) → built bytes keys table .answer ≡ BuildAnswer.Built states
       → judged bytes values ≡ ran (q .n) (take (states * tableWidth (q .n)) (built bytes keys table .table)) (wordOfValues 40 values)
   judged-built t keys table states e =
       judged-accepted ∙ judged-truth q values t ∙ sym (rw (word-spells q values t) at (built-answers bytes keys table q accepted states e (wordOfValues 40 values) (word-over q values t)))

@@ -1,9 +1,10 @@
 -- The call of deciding: what each of its answers says of bytes that were accepted, and what stands in the word buffer afterwards.
 use mathlib.Core.Path.{_≡_, refl, sym, ap, _∙_}
-use mathlib.Core.Logic.{_↔_, _≢_}
+use mathlib.Core.Logic.{_↔_, _≢_, by-cases}
 use mathlib.Core.Bool.{Bool, true, false}
 use mathlib.Core.List.{List}
 use Prim.Native.Nat.{ℕ, suc, _≤_, _<_}
+use native.Mathlib.Decide.{decLt}
 use native.Mathlib.Omega.{arith}
 use lib.ListN.{length, getD, take}
 use lib.Dec.{leb, leb→le, le→leb, nleb→lt, not-T}
@@ -15,15 +16,15 @@ use Rattle.scope.specs.declared.ReadAnswer.{ReadAnswer}
 use Rattle.scope.specs.declared.DecideAnswer.{DecideAnswer}
 use Rattle.scope.specs.Whole.{atFront}
 use Rattle.scope.specs.Wire.{readHeld}
-use Rattle.scope.specs.Words.{Word}
+use Rattle.scope.specs.Words.{Word, spelled}
+use Rattle.scope.specs.States.{satisfied}
 use Rattle.scope.specs.Bound.{bound}
 use Rattle.scope.specs.Numbering.{machineOf}
 use Rattle.scope.specs.Deciding.{Verdict, found, never, noRoom, decideRoom, decideAnswer, foundAnswer, foundWord, wordAfter, Decided, decidedQuestion, decided}
 use Rattle.theory.specs.Lawful.{Lawful, machine-lawful}
-use Rattle.theory.specs.Verdicts.{NoneOf}
-use Rattle.theory.specs.Reachable.{AtMost, rows-few}
+use Rattle.theory.specs.Reachable.{AtMost, rows-few, room-iff}
 use Rattle.theory.specs.Joined.{atFront-cells, atFront-beyond}
-use Rattle.theory.specs.Deciding.{StatesAre, states-unique, states-at-most, states-are, rowsOf, rowWord, verdictOf, bound-at-most, NoneSatisfies, FirstSatisfying, FoundAt, found-exactly, found-short, never-exactly, no-room-exactly}
+use Rattle.theory.specs.Deciding.{StatesAre, states-unique, states-at-most, states-are, rowsOf, rowWord, verdictOf, bound-at-most, NoneSatisfies, FirstSatisfying, FoundAt, found-exactly, row-short, never-exactly, no-room-exactly, no-word-satisfies}
 
 -- ---- the answer where r rows and a word buffer are lent
 
@@ -34,32 +35,32 @@ abbrev pub wordOfAnswer : Question → ℕ → List ℕ → List ℕ
 wordOfAnswer q r word = wordAfter (verdictOf q r) (rowsOf q r) (machineOf q) word
 
 -- row `states - 1` is found, and its word has k letters
-pub record RowFound (q : Question) (r states k : ℕ) : Type 0 where
+pub record RowFound (q : Question) (says : List ℕ → Bool) (r states k : ℕ) : Type 0 where
   pub row : ℕ
   pub states-are : states ≡ suc row
-  pub found-at : FoundAt q r row
+  pub found-at : FoundAt q says r row
   pub letters-are : k ≡ length (rowWord q r row)
 
 -- so a word buffer of as many letters as states has room
-pub letters-fewer : {q : Question} {r states k : ℕ} → RowFound q r states k → k < states
-letters-fewer {q} {r} f = omega (arith, f .states-are, f .letters-are, found-short q r (f .row) (f .found-at))
+pub letters-fewer : {q : Question} {says : List ℕ → Bool} {r states k : ℕ} → RowFound q says r states k → k < states
+letters-fewer {q} {says} {r} f = omega (arith, f .states-are, f .letters-are, row-short q r (f .row) (f .found-at .inside))
 
 -- the reachable states are so many, the rows lent hold them, and no naturals satisfy the question
-pub record NeverAt (q : Question) (r states : ℕ) : Type 0 where
+pub record NeverAt (q : Question) (says : List ℕ → Bool) (r states : ℕ) : Type 0 where
   pub states-are : StatesAre (machineOf q) states
   pub room : states ≤ r
-  pub none-satisfies : NoneSatisfies q
+  pub none-satisfies : NoneSatisfies (q .n) says
 
--- the reachable states are more than the rows lent, and none of the first r accepts
-pub record NoRoomAt (q : Question) (r states : ℕ) : Type 0 where
+-- the reachable states are more than the rows lent, and the word of none of the first r satisfies
+pub record NoRoomAt (q : Question) (says : List ℕ → Bool) (r states : ℕ) : Type 0 where
   pub states-are : states ≡ r
   pub more : ¬ AtMost (machineOf q) r
-  pub none-accepts : NoneOf (machineOf q) (rowsOf q r) r
+  pub none-satisfies : (t : ℕ) → t < r → says (spelled (q .n) (rowWord q r t)) ≡ false
 
 -- by what an answer is given
 data Answered (q : Question) (r : ℕ) (word : List ℕ) : DecideAnswer → Type 0 where
-  by-found : {states k : ℕ} → RowFound q r states k → k ≤ length word → Answered q r word (DecideAnswer.Found states k)
-  by-short : {states k : ℕ} → RowFound q r states k → length word < k → Answered q r word (DecideAnswer.Short states k)
+  by-found : {states k : ℕ} → RowFound q (satisfied q) r states k → k ≤ length word → Answered q r word (DecideAnswer.Found states k)
+  by-short : {states k : ℕ} → RowFound q (satisfied q) r states k → length word < k → Answered q r word (DecideAnswer.Short states k)
   by-never : {states : ℕ} → states ≡ length (rowsOf q r) → verdictOf q r ≡ never → Answered q r word (DecideAnswer.Never states)
   by-no-room : {states : ℕ} → states ≡ r → verdictOf q r ≡ noRoom → Answered q r word (DecideAnswer.NoRoom states)
 
@@ -93,41 +94,44 @@ module _ (q : Question) (r : ℕ) (word : List ℕ) where
   by-answered (by-never d e) = rw (e, d)
   by-answered (by-no-room d e) = rw (e, d)
 
-  pub answers-found : (states k : ℕ) → (answerOf q r word ≡ DecideAnswer.Found states k) ↔ (RowFound q r states k × (k ≤ length word))
+  pub answers-found : (states k : ℕ) → (answerOf q r word ≡ DecideAnswer.Found states k) ↔ (RowFound q (satisfied q) r states k × (k ≤ length word))
   answers-found states k = (λ e. go (rw e at answered), λ f. by-answered (by-found (f .0) (f .1)))
     where
-      go : Answered q r word (DecideAnswer.Found states k) → RowFound q r states k × (k ≤ length word)
+      go : Answered q r word (DecideAnswer.Found states k) → RowFound q (satisfied q) r states k × (k ≤ length word)
       go (by-found f h) = (f, h)
 
-  pub answers-short : (states k : ℕ) → (answerOf q r word ≡ DecideAnswer.Short states k) ↔ (RowFound q r states k × (length word < k))
+  pub answers-short : (states k : ℕ) → (answerOf q r word ≡ DecideAnswer.Short states k) ↔ (RowFound q (satisfied q) r states k × (length word < k))
   answers-short states k = (λ e. go (rw e at answered), λ f. by-answered (by-short (f .0) (f .1)))
     where
-      go : Answered q r word (DecideAnswer.Short states k) → RowFound q r states k × (length word < k)
+      go : Answered q r word (DecideAnswer.Short states k) → RowFound q (satisfied q) r states k × (length word < k)
       go (by-short f h) = (f, h)
 
-  pub answers-never : (states : ℕ) → (answerOf q r word ≡ DecideAnswer.Never states) ↔ NeverAt q r states
+  pub answers-never : (states : ℕ) → (answerOf q r word ≡ DecideAnswer.Never states) ↔ NeverAt q (satisfied q) r states
   answers-never states = (λ e. go (rw e at answered), back)
     where
       ok : Lawful (machineOf q)
       ok = machine-lawful q
 
-      go : Answered q r word (DecideAnswer.Never states) → NeverAt q r states
+      go : Answered q r word (DecideAnswer.Never states) → NeverAt q (satisfied q) r states
       go (by-never d e) =
           let n = never-exactly q r .0 e in
           let h = rows-few (machineOf q) ok r (n .0) in
           record { states-are = rw d (states-are (machineOf q) ok r h); room = omega arith; none-satisfies = n .1 }
 
-      back : NeverAt q r states → answerOf q r word ≡ DecideAnswer.Never states
+      back : NeverAt q (satisfied q) r states → answerOf q r word ≡ DecideAnswer.Never states
       back n =
           let a = states-at-most r (n .states-are) .0 (n .room) in
           let h = rows-few (machineOf q) ok r a in
           by-answered (by-never (states-unique (n .states-are) (states-are (machineOf q) ok r h)) (never-exactly q r .1 (a, n .none-satisfies)))
 
-  pub answers-no-room : (states : ℕ) → (answerOf q r word ≡ DecideAnswer.NoRoom states) ↔ NoRoomAt q r states
-  answers-no-room states = (λ e. go (rw e at answered), λ n. by-answered (by-no-room (n .states-are) (no-room-exactly q r .1 (n .more, n .none-accepts))))
+  pub answers-no-room : (states : ℕ) → (answerOf q r word ≡ DecideAnswer.NoRoom states) ↔ NoRoomAt q (satisfied q) r states
+  answers-no-room states = (λ e. go (rw e at answered), λ n. by-answered (by-no-room (n .states-are) (no-room-exactly q r .1 (n .more, no-word-satisfies q r (more-rows (n .more)) .1 (n .none-satisfies)))))
     where
-      go : Answered q r word (DecideAnswer.NoRoom states) → NoRoomAt q r states
-      go (by-no-room d e) = let n = no-room-exactly q r .0 e in record { states-are = d; more = n .0; none-accepts = n .1 }
+      more-rows : ¬ AtMost (machineOf q) r → r < length (rowsOf q r)
+      more-rows m = by-cases (decLt r (length (rowsOf q r))) (λ p. p) (λ p. absurd (m (room-iff (machineOf q) (machine-lawful q) r .0 (omega arith))))
+
+      go : Answered q r word (DecideAnswer.NoRoom states) → NoRoomAt q (satisfied q) r states
+      go (by-no-room d e) = let n = no-room-exactly q r .0 e in record { states-are = d; more = n .0; none-satisfies = no-word-satisfies q r (more-rows (n .0)) .0 (n .1) }
 
   pub answers-refused : (f : Refusal) → answerOf q r word ≢ DecideAnswer.Refused f
   answers-refused f e = go (rw e at answered)
@@ -137,7 +141,7 @@ module _ (q : Question) (r : ℕ) (word : List ℕ) where
 
   -- ---- the word buffer afterwards
 
-  pub answers-word : {states k : ℕ} (f : RowFound q r states k) → k ≤ length word → wordOfAnswer q r word ≡ atFront (rowWord q r (f .row)) word
+  pub answers-word : {states k : ℕ} (f : RowFound q (satisfied q) r states k) → k ≤ length word → wordOfAnswer q r word ≡ atFront (rowWord q r (f .row)) word
   answers-word f h =
       let v : Word = rowWord q r (f .row) in
       let b = le→leb (length v) (length word) (omega (arith, f .letters-are)) in
@@ -180,30 +184,30 @@ module _ (bytes : List ℕ) (keys : List ℤ) (path word : List ℕ) (q : Questi
   decided-word = ap (λ (d : Decided). d .word) decided-accepted
 
   pub says-found : (states k : ℕ)
-      → (decided bytes keys path word .answer ≡ DecideAnswer.Found states k) ↔ (RowFound q (decideRoom q keys path) states k × (k ≤ length word))
+      → (decided bytes keys path word .answer ≡ DecideAnswer.Found states k) ↔ (RowFound q (satisfied q) (decideRoom q keys path) states k × (k ≤ length word))
   says-found states k = rw decided-answer (answers-found q (decideRoom q keys path) word states k)
 
   pub says-short : (states k : ℕ)
-      → (decided bytes keys path word .answer ≡ DecideAnswer.Short states k) ↔ (RowFound q (decideRoom q keys path) states k × (length word < k))
+      → (decided bytes keys path word .answer ≡ DecideAnswer.Short states k) ↔ (RowFound q (satisfied q) (decideRoom q keys path) states k × (length word < k))
   says-short states k = rw decided-answer (answers-short q (decideRoom q keys path) word states k)
 
-  pub says-never : (states : ℕ) → (decided bytes keys path word .answer ≡ DecideAnswer.Never states) ↔ NeverAt q (decideRoom q keys path) states
+  pub says-never : (states : ℕ) → (decided bytes keys path word .answer ≡ DecideAnswer.Never states) ↔ NeverAt q (satisfied q) (decideRoom q keys path) states
   says-never states = rw decided-answer (answers-never q (decideRoom q keys path) word states)
 
-  pub says-no-room : (states : ℕ) → (decided bytes keys path word .answer ≡ DecideAnswer.NoRoom states) ↔ NoRoomAt q (decideRoom q keys path) states
+  pub says-no-room : (states : ℕ) → (decided bytes keys path word .answer ≡ DecideAnswer.NoRoom states) ↔ NoRoomAt q (satisfied q) (decideRoom q keys path) states
   says-no-room states = rw decided-answer (answers-no-room q (decideRoom q keys path) word states)
 
   pub says-not-refused : (f : Refusal) → decided bytes keys path word .answer ≢ DecideAnswer.Refused f
   says-not-refused f = rw decided-answer (answers-refused q (decideRoom q keys path) word f)
 
   -- never is said exactly if the rows lent hold every reachable state and no naturals satisfy the question
-  pub never-said : ((states : ℕ) × (decided bytes keys path word .answer ≡ DecideAnswer.Never states)) ↔ (AtMost (machineOf q) (decideRoom q keys path) × NoneSatisfies q)
+  pub never-said : ((states : ℕ) × (decided bytes keys path word .answer ≡ DecideAnswer.Never states)) ↔ (AtMost (machineOf q) (decideRoom q keys path) × NoneSatisfies (q .n) (satisfied q))
   never-said = (said, back)
     where
-      said : (states : ℕ) × (decided bytes keys path word .answer ≡ DecideAnswer.Never states) → AtMost (machineOf q) (decideRoom q keys path) × NoneSatisfies q
+      said : (states : ℕ) × (decided bytes keys path word .answer ≡ DecideAnswer.Never states) → AtMost (machineOf q) (decideRoom q keys path) × NoneSatisfies (q .n) (satisfied q)
       said (states, e) = let n = says-never states .0 e in (states-at-most (decideRoom q keys path) (n .states-are) .0 (n .room), n .none-satisfies)
 
-      back : AtMost (machineOf q) (decideRoom q keys path) × NoneSatisfies q → (states : ℕ) × (decided bytes keys path word .answer ≡ DecideAnswer.Never states)
+      back : AtMost (machineOf q) (decideRoom q keys path) × NoneSatisfies (q .n) (satisfied q) → (states : ℕ) × (decided bytes keys path word .answer ≡ DecideAnswer.Never states)
       back (a, n) =
           let h = rows-few (machineOf q) (machine-lawful q) (decideRoom q keys path) a in
           let s = states-are (machineOf q) (machine-lawful q) (decideRoom q keys path) h in
@@ -214,7 +218,7 @@ module _ (bytes : List ℕ) (keys : List ℤ) (path word : List ℕ) (q : Questi
 
   -- found hands over the first satisfying word: its k letters stand at the front of the word buffer, the rest of which is as it was
   pub record HandedOver (k : ℕ) : Type 0 where
-    pub first : FirstSatisfying q (take k (decided bytes keys path word .word))
+    pub first : FirstSatisfying (q .n) (satisfied q) (take k (decided bytes keys path word .word))
     pub rest : (i a : ℕ) → k ≤ i → getD (decided bytes keys path word .word) i a ≡ getD word i a
 
   pub found-hands-over : (states k : ℕ) → decided bytes keys path word .answer ≡ DecideAnswer.Found states k → HandedOver k

@@ -1,7 +1,7 @@
 -- Deciding: what found, never and no room say of a question where r rows are lent, in whole-number arithmetic; and that the bound leaves room.
-use mathlib.Core.Path.{_≡_, refl, sym, _∙_}
+use mathlib.Core.Path.{_≡_, refl, sym, ap, _∙_}
 use mathlib.Core.Logic.{_↔_, _≢_, Iff·rfl, Iff·symm, Iff·trans, Iff·and}
-use mathlib.Core.Bool.{true, false, true≢false, not-eq-not}
+use mathlib.Core.Bool.{Bool, true, false, true≢false, not-eq-not}
 use mathlib.Core.List.{List}
 use Prim.Native.Nat.{ℕ, _≤_, _<_}
 use native.Mathlib.Nat.{le-refl}
@@ -78,47 +78,44 @@ module _ (q : Question) where
   pub bound-at-most : (r : ℕ) → bound q ≤ r → AtMost (machineOf q) r
   bound-at-most r h = room-iff (machineOf q) (machine-lawful q) r .0 (omega (arith, bound-suffices r))
 
--- ---- what satisfies a question
-
-abbrev pub Satisfies : Question → Word → Type 0
-Satisfies q w = satisfied q (spelled (q .n) w) ≡ true
+-- ---- what satisfies a question of n variables, by what it says of naturals
 
 -- no naturals, however large
-abbrev pub NoneSatisfies : Question → Type 0
-NoneSatisfies q = (xs : List ℕ) → length xs ≡ q .n → satisfied q xs ≡ false
+abbrev pub NoneSatisfies : ℕ → (List ℕ → Bool) → Type 0
+NoneSatisfies n says = (xs : List ℕ) → length xs ≡ n → says xs ≡ false
 
 -- the first satisfying word, in the order of words
-pub record FirstSatisfying (q : Question) (w : Word) : Type 0 where
-  pub over : Over (letters (q .n)) w
-  pub satisfies : Satisfies q w
-  pub first : (v : Word) → Over (letters (q .n)) v → Satisfies q v → w ≼ v
+pub record FirstSatisfying (n : ℕ) (says : List ℕ → Bool) (w : Word) : Type 0 where
+  pub over : Over (letters n) w
+  pub satisfies : says (spelled n w) ≡ true
+  pub first : (v : Word) → Over (letters n) v → says (spelled n v) ≡ true → w ≼ v
 
-pub first-satisfying-unique : {q : Question} {v w : Word} → FirstSatisfying q v → FirstSatisfying q w → v ≡ w
-first-satisfying-unique {v} {w} a b = ≼-antisym (a .first w (b .over) (b .satisfies)) (b .first v (a .over) (a .satisfies))
+pub first-satisfying-unique : {n : ℕ} {says : List ℕ → Bool} {v w : Word} → FirstSatisfying n says v → FirstSatisfying n says w → v ≡ w
+first-satisfying-unique {v = v} {w = w} a b = ≼-antisym (a .first w (b .over) (b .satisfies)) (b .first v (a .over) (a .satisfies))
 
 module _ (q : Question) where
-  satisfies-accepted : (w : Word) → Satisfies q w → Accepted (machineOf q) w
+  satisfies-accepted : (w : Word) → satisfied q (spelled (q .n) w) ≡ true → Accepted (machineOf q) w
   satisfies-accepted w h = word-means q w ∙ h
 
-  pub none-satisfies : NoneSatisfies q ↔ ((w : Word) → Over (machineOf q .letters) w → ¬ Accepted (machineOf q) w)
+  pub none-satisfies : NoneSatisfies (q .n) (satisfied q) ↔ ((w : Word) → Over (machineOf q .letters) w → ¬ Accepted (machineOf q) w)
   none-satisfies = (none-accepted, none)
     where
-      none-accepted : NoneSatisfies q → (w : Word) → Over (machineOf q .letters) w → ¬ Accepted (machineOf q) w
+      none-accepted : NoneSatisfies (q .n) (satisfied q) → (w : Word) → Over (machineOf q .letters) w → ¬ Accepted (machineOf q) w
       none-accepted n w o a = true≢false (sym (accepted-satisfies q w a) ∙ n (spelled (q .n) w) (length-spelled (q .n) w))
 
-      none : ((w : Word) → Over (machineOf q .letters) w → ¬ Accepted (machineOf q) w) → NoneSatisfies q
+      none : ((w : Word) → Over (machineOf q .letters) w → ¬ Accepted (machineOf q) w) → NoneSatisfies (q .n) (satisfied q)
       none n xs e = not-eq-not .0 (λ h. let a : AcceptedWord q xs = satisfied-accepted q xs e h in n (a .word) (to-machine q (a .over)) (a .accepted))
 
 -- ---- what the verdict where r rows are lent says
 
 -- row w is below r, and its word is the first satisfying word
-pub record FoundAt (q : Question) (r w : ℕ) : Type 0 where
+pub record FoundAt (q : Question) (says : List ℕ → Bool) (r w : ℕ) : Type 0 where
   pub room : w < r
   pub inside : w < length (rowsOf q r)
-  pub first : FirstSatisfying q (rowWord q r w)
+  pub first : FirstSatisfying (q .n) says (rowWord q r w)
 
 module _ (q : Question) (r : ℕ) where
-  found-at : (w : ℕ) → verdictOf q r ≡ found w → FoundAt q r w
+  found-at : (w : ℕ) → verdictOf q r ≡ found w → FoundAt q (satisfied q) r w
   found-at w e =
       let k = found-iff (machineOf q) (machine-lawful q) r w .0 e in
       record {
@@ -131,7 +128,7 @@ module _ (q : Question) (r : ℕ) where
         };
       }
 
-  at-found : (w : ℕ) → FoundAt q r w → verdictOf q r ≡ found w
+  at-found : (w : ℕ) → FoundAt q (satisfied q) r w → verdictOf q r ≡ found w
   at-found w a = verdict-by (machineOf q) (is-found w (a .room) (a .inside) accepts smallest)
     where
       k : Rooted (machineOf q) (rowsOf q r)
@@ -144,24 +141,33 @@ module _ (q : Question) (r : ℕ) where
       later : (t : ℕ) → t < w → t < length (rowsOf q r) → machineOf q .accepts (row (machineOf q) (rowsOf q r) t .state) ≢ true
       later t h p e =
           let v : Word = rowWord q r t in
-          let s : Satisfies q v = accepted-satisfies q v (rw (after-word (machineOf q) k t p) e) in
+          let s : satisfied q (spelled (q .n) v) ≡ true = accepted-satisfies q v (rw (after-word (machineOf q) k t p) e) in
           ≼-not-≻ (a .first .first v (from-machine q (word-over (machineOf q) k t p)) s) (words-increase (machineOf q) k t w h (a .inside))
 
       smallest : NoneOf (machineOf q) (rowsOf q r) w
       smallest t h = not-eq-not .0 (later t h (omega (arith, a .inside)))
 
-  pub found-exactly : (w : ℕ) → (verdictOf q r ≡ found w) ↔ FoundAt q r w
+  pub found-exactly : (w : ℕ) → (verdictOf q r ≡ found w) ↔ FoundAt q (satisfied q) r w
   found-exactly w = (found-at w, at-found w)
 
   -- its letters are at most w
-  pub found-short : (w : ℕ) → FoundAt q r w → length (rowWord q r w) ≤ w
-  found-short w a = word-length (machineOf q) (numbered-rooted (machineOf q) (machine-lawful q) r) w (a .inside)
+  pub row-short : (w : ℕ) → w < length (rowsOf q r) → length (rowWord q r w) ≤ w
+  row-short w h = word-length (machineOf q) (numbered-rooted (machineOf q) (machine-lawful q) r) w h
 
-  pub never-exactly : (verdictOf q r ≡ never) ↔ (AtMost (machineOf q) r × NoneSatisfies q)
+  pub never-exactly : (verdictOf q r ≡ never) ↔ (AtMost (machineOf q) r × NoneSatisfies (q .n) (satisfied q))
   never-exactly = Iff·trans (never-means (machineOf q) (machine-lawful q) r) (Iff·and Iff·rfl (Iff·symm (none-satisfies q)))
 
   pub no-room-exactly : (verdictOf q r ≡ noRoom) ↔ ((¬ AtMost (machineOf q) r) × NoneOf (machineOf q) (rowsOf q r) r)
   no-room-exactly = noRoom-means (machineOf q) (machine-lawful q) r
+
+  -- in words: the word of none of the first r rows satisfies
+  pub no-word-satisfies : r < length (rowsOf q r) → NoneOf (machineOf q) (rowsOf q r) r ↔ ((t : ℕ) → t < r → satisfied q (spelled (q .n) (rowWord q r t)) ≡ false)
+  no-word-satisfies more = (λ n t h. sym (means t h) ∙ n t h, λ n t h. means t h ∙ n t h)
+    where
+      means : (t : ℕ) → t < r → machineOf q .accepts (row (machineOf q) (rowsOf q r) t .state) ≡ satisfied q (spelled (q .n) (rowWord q r t))
+      means t h =
+          ap (machineOf q .accepts) (sym (after-word (machineOf q) (numbered-rooted (machineOf q) (machine-lawful q) r) t (omega arith)))
+          ∙ word-means q (rowWord q r t)
 
   pub bound-leaves-room : bound q ≤ r → verdictOf q r ≢ noRoom
   bound-leaves-room h e = no-room-exactly .0 e .0 (bound-at-most q r h)

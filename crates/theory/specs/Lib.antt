@@ -42,12 +42,17 @@ pub mod Wholes
 pub mod ReadWritten
 pub mod WrittenRead
 pub mod Accepted
-pub mod Formula
 pub mod Stopped
 pub mod WritingStopped
 pub mod Answers
 pub mod Buffers
 pub mod Variables
+-- questions as trees, apart from any reader: their limits and held values, the bytes that are theirs, and what they mean
+pub mod Trees
+pub mod TreeRead
+pub mod TreeParsed
+pub mod TreeMeans
+pub mod TreeWritten
 -- what each answer of deciding, building, running and judging says, and what each lent buffer holds after
 pub mod Joined
 pub mod Deciding
@@ -57,3 +62,4 @@ pub mod Built
 pub mod Lengths
 pub mod Areas
 pub mod Agreement
+pub mod Questions

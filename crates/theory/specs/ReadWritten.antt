@@ -305,10 +305,10 @@ read-written q w z e =
 
 -- ---- written bytes are bytes
 
-record-octets : (kind : ℕ) (body : List ℕ) → Octets body → Octets (recordBytes kind body)
+pub record-octets : (kind : ℕ) (body : List ℕ) → Octets body → Octets (recordBytes kind body)
 record-octets kind body o = octets-append (twoBytes (length body)) (twoBytes kind ++ body) (two-octets (length body)) (octets-append (twoBytes kind) body (two-octets kind) o)
 
-body-octets : (t : Bool) (cs : List ℤ) (k : ℤ) → Octets (cond t (atomBody cs k) [])
+pub body-octets : (t : Bool) (cs : List ℤ) (k : ℤ) → Octets (cond t (atomBody cs k) [])
 unfolding atomBody
 body-octets true cs k = octets-append (joined (map numberBytes cs)) (numberBytes k) (run-octets cs) (number-octets k)
 body-octets false cs k = tt

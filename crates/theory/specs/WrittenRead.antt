@@ -35,7 +35,7 @@ there-bytes b at kind body o t k e =
     ∙ ap (λ (l : List ℕ). take at b ++ l) (bytes-of-record b at o t ∙ (λ i. recordBytes (k i) (e i)))
 
 -- the body, by whether the node is an atom
-there-body-bytes : (t : Bool) (n : ℕ) (b : List ℕ) (at : ℕ) → Octets b → at + cond t (4 * (n + 1)) 0 ≤ length b
+pub there-body-bytes : (t : Bool) (n : ℕ) (b : List ℕ) (at : ℕ) → Octets b → at + cond t (4 * (n + 1)) 0 ≤ length b
     → take (cond t (4 * (n + 1)) 0) (drop at b) ≡ cond t (atomBody (numbersAt n b at) (numberAt b (at + 4 * n))) []
 there-body-bytes true n b at o h = bytes-of-body n b at o h
 there-body-bytes false n b at o h = refl
@@ -146,7 +146,7 @@ module _ (b : List ℕ) (o : Octets b) (q : Question) (s r : Reading) (w : Walk)
 
 -- ---- the whole
 
-one-off : (l : List ℕ) → 1 ≤ length l → take 1 l ≡ byteAt l 0 ∷ []
+pub one-off : (l : List ℕ) → 1 ≤ length l → take 1 l ≡ byteAt l 0 ∷ []
 one-off [] h = absurd (omega arith)
 one-off (x ∷ l) h = refl
 
