@@ -1,6 +1,7 @@
 // The asking program: reads a question from standard input, decides it and prints the answer. What is printed is told of the first 1,024 bytes.
 use libc::STDIN_FILENO;
 use libc::STDOUT_FILENO;
+use scope::Question;
 ghost use Prim.Native.Nat.{_≤_};
 ghost use lib.ListN.{length};
 ghost use Rattle.told.specs.Text.{longest};
@@ -9,10 +10,12 @@ ghost use Rattle.ask.specs.Asked.{Asked};
 // The bytes that decide.
 const QUESTION: usize = 1_024;
 
-// Room for 1,024 states of up to 8 atoms, and for 1,024 letters.
-const KEYS: usize = 8_192;
+// Room for 1,024 states, for any number of atoms, and for 1,024 letters.
+const STATES: usize = 1_024;
 
-const PATH: usize = 2_048;
+const KEYS: usize = Question::ATOMS * STATES;
+
+const PATH: usize = 2 * STATES;
 
 const WORD: usize = 1_024;
 

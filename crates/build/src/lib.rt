@@ -11,6 +11,7 @@ use index::store_row;
 use scope::BuildAnswer;
 use scope::Question;
 use scope::ReadAnswer;
+use step::SUMS;
 use step::kinds_of;
 use step::letter_sums;
 use step::letters;
@@ -36,16 +37,16 @@ ghost use Rattle.build.specs.Asked.{Lends};
 
 // The row that has the cells to which a letter leads from a row. They are worked in a row that is lent.
 fn next_state(
-    kinds: &[u8; 8],
+    kinds: &[u8; Question::ATOMS],
     m: usize,
-    sums: &[i32; 512],
+    sums: &[i32; SUMS],
     letter: usize,
     keys: &[i32],
     head: &[u16],
     next: &[u16],
     count: usize,
     row: usize,
-    key: &mut [i32; 8],
+    key: &mut [i32; Question::ATOMS],
 ) -> u16
     requires { ⌜ Indexed (now keys) m (now head) (now next) count ⌝ }
     requires { ⌜ Stepping m (now sums) letter (now keys) (row * m) ⌝ }
@@ -67,10 +68,10 @@ fn mark(accepting: bool) -> u16
 // Writes a row of the table: 1 if the key row accepts else 0, then the next state for each letter in order.
 fn write_row(
     part: &mut [u16],
-    codes: &[u8; 64],
-    kinds: &[u8; 8],
+    codes: &[u8; Question::NODES],
+    kinds: &[u8; Question::ATOMS],
     m: usize,
-    sums: &[i32; 512],
+    sums: &[i32; SUMS],
     letters: usize,
     keys: &[i32],
     head: &[u16],
@@ -84,7 +85,7 @@ fn write_row(
     ensures { λ _. ⌜ now (part .exit) ≡ rowOf (now (codes .entry)) (now (kinds .entry)) m (now (sums .entry)) letters (now (keys .entry)) count row ⌝ }
 {
     part[0] = mark(accepts(codes, kinds, m, keys, row * m));
-    let mut key = [0i32; 8];
+    let mut key = [0i32; Question::ATOMS];
     let mut letter = 0;
     while letter < letters {
         part[1 + letter] = next_state(
@@ -106,10 +107,10 @@ fn write_row(
 // Writes every row of the table at its front, each in the part that is lent for it.
 fn write_rows(
     table: &mut [u16],
-    codes: &[u8; 64],
-    kinds: &[u8; 8],
+    codes: &[u8; Question::NODES],
+    kinds: &[u8; Question::ATOMS],
     m: usize,
-    sums: &[i32; 512],
+    sums: &[i32; SUMS],
     letters: usize,
     keys: &[i32],
     head: &[u16],
@@ -146,10 +147,10 @@ fn write_rows(
 // Numbers the states from where it stands, with an index that has no row yet. If each state has a row then, it writes the table from the same
 // index.
 fn fill_from(
-    codes: &[u8; 64],
-    kinds: &[u8; 8],
+    codes: &[u8; Question::NODES],
+    kinds: &[u8; Question::ATOMS],
     m: usize,
-    sums: &[i32; 512],
+    sums: &[i32; SUMS],
     letters: usize,
     keys: &mut [i32],
     path: &mut [u16],
@@ -202,10 +203,10 @@ fn fill_from(
 
 // From the start, with a small index.
 fn fill_few(
-    codes: &[u8; 64],
-    kinds: &[u8; 8],
+    codes: &[u8; Question::NODES],
+    kinds: &[u8; Question::ATOMS],
     m: usize,
-    sums: &[i32; 512],
+    sums: &[i32; SUMS],
     letters: usize,
     keys: &mut [i32],
     path: &mut [u16],
@@ -238,10 +239,10 @@ fn fill_few(
 
 // On from where it stands, with a large index.
 fn fill_many(
-    codes: &[u8; 64],
-    kinds: &[u8; 8],
+    codes: &[u8; Question::NODES],
+    kinds: &[u8; Question::ATOMS],
     m: usize,
-    sums: &[i32; 512],
+    sums: &[i32; SUMS],
     letters: usize,
     keys: &mut [i32],
     path: &mut [u16],
@@ -288,10 +289,10 @@ fn answer(s: Stand) -> BuildAnswer
 
 // Numbers the states from the start's, which is row 0 already, and writes the table if each of them has a row.
 fn fill(
-    codes: &[u8; 64],
-    kinds: &[u8; 8],
+    codes: &[u8; Question::NODES],
+    kinds: &[u8; Question::ATOMS],
     m: usize,
-    sums: &[i32; 512],
+    sums: &[i32; SUMS],
     letters: usize,
     keys: &mut [i32],
     table: &mut [u16],
@@ -337,7 +338,7 @@ fn room(keys: usize, m: usize, table: usize, width: usize) -> usize
 // Builds the table of a question in so many rows, and its start is row 0.
 fn build_rows(
     question: Question,
-    kinds: &[u8; 8],
+    kinds: &[u8; Question::ATOMS],
     m: usize,
     letters: usize,
     rows: usize,

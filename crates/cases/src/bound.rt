@@ -4,7 +4,13 @@ use crate::formulas::is_atom;
 use crate::plain::Sums;
 use crate::plain::times;
 use crate::plain::weighed;
+use crate::sides::COLUMNS;
+use crate::sides::CONSTANT;
+use crate::sides::CONSTANT_LEFT;
+use crate::sides::CONSTANT_RIGHT;
+use crate::sides::ROW;
 use crate::sides::row_of;
+use scope::Question;
 
 // A bound beyond this is given as this.
 const MOST: u64 = 1_000_000;
@@ -26,13 +32,14 @@ fn capped(a: u64) -> u64
 
 // How many numbers an atom's entries have, and dead: from min(k, -P) to max(k, N), where no more than one side of k is not zero.
 fn numbers_of(code: u8, row: &[u64]) -> u64 {
-    if row.len() < 14 {
+    if row.len() < ROW {
         return 0;
     }
-    let once = [1u64, 1, 1, 1, 1, 1, 0];
+    let mut once = [1u64; COLUMNS];
+    once[CONSTANT] = 0;
     let sums = weighed(Sums { left: 0, right: 0 }, row, &once);
-    let below = capped(larger(row[12], sums.left));
-    let above = capped(larger(row[13], sums.right));
+    let below = capped(larger(row[CONSTANT_LEFT], sums.left));
+    let above = capped(larger(row[CONSTANT_RIGHT], sums.right));
     if code == 1 {
         return below + above + 2;
     }
@@ -47,7 +54,11 @@ fn with_node(bound: Bound, code: u8, sides: &[u64]) -> Bound {
     let count = numbers_of(code, row_of(sides, atoms));
     Bound {
         product: capped(times(bound.product, count)),
-        atoms: if atoms < 64 { atoms + 1 } else { atoms },
+        atoms: if atoms < Question::NODES {
+            atoms + 1
+        } else {
+            atoms
+        },
     }
 }
 

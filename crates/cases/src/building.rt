@@ -10,15 +10,16 @@ use compared::KEY_MARK;
 use compared::cells_filled;
 use compared::cells_of;
 use compared::numbers_filled;
+use scope::Question;
 
 // The rows lent.
 pub const ROWS: usize = 600;
 
-const KEYS: usize = 8 * ROWS;
+const KEYS: usize = Question::ATOMS * ROWS;
 
 const PATH: usize = 2 * ROWS;
 
-pub const TABLE: usize = 65 * ROWS;
+pub const TABLE: usize = (1 + Question::LETTERS) * ROWS;
 
 pub struct Formed {
     pub made: Made,

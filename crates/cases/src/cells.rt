@@ -14,6 +14,7 @@ use crate::rows::look;
 use crate::sides::COLUMNS;
 use crate::spelled::digit;
 use compared::cells_of;
+use scope::Question;
 
 fn counted(x: u64) -> u64 {
     if x < 1_000_000 { x + 1 } else { x }
@@ -27,7 +28,7 @@ fn raised(value: u64, bit: bool, power: u64) -> u64 {
 fn values_on(values: [u64; COLUMNS], letter: u8, power: u64) -> [u64; COLUMNS] {
     let mut all = values;
     let mut j = 0;
-    while j < 6 {
+    while j < Question::VARIABLES {
         all[j] = raised(all[j], digit(letter, j), power);
         j += 1;
     }

@@ -1,9 +1,13 @@
 // What deciding the five coconut equations leaves in every key and path cell, worked by hand.
 use crate::entries::DEAD;
 use crate::spelled::digit;
+use scope::Question;
 
 // The start, and a state for every letter where the one before does not lead to the same: variable 1 does not count while variable 2's digit is 0.
 pub const STATES: usize = 49;
+
+// The coconuts have as many variables as there can be.
+const LETTERS: u8 = Question::LETTERS as u8;
 
 struct Rows {
     row: usize,
@@ -86,7 +90,7 @@ pub fn rows_right(keys: &[i32], path: &[u16]) -> bool {
         same: start_is(keys, path),
     };
     let mut letter = 0;
-    while letter < 64 {
+    while letter < LETTERS {
         rows = with_letter(rows, keys, path, letter);
         letter += 1;
     }

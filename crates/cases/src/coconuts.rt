@@ -10,7 +10,7 @@ use scope::DecideAnswer;
 use scope::Question;
 
 pub fn coconuts() -> Question {
-    let mut codes = [0u8; 64];
+    let mut codes = [0u8; Question::NODES];
     codes[0] = 4;
     codes[1] = 1;
     codes[2] = 4;
@@ -20,7 +20,7 @@ pub fn coconuts() -> Question {
     codes[6] = 4;
     codes[7] = 1;
     codes[8] = 1;
-    let mut coefficients = [0i32; 48];
+    let mut coefficients = [0i32; Question::COEFFICIENTS];
     coefficients[0] = -4;
     coefficients[1] = 5;
     coefficients[7] = -4;

@@ -11,11 +11,12 @@ use compared::KEY_MARK;
 use compared::cells_filled;
 use compared::cells_of;
 use compared::numbers_filled;
+use scope::Question;
 
 // The rows and the letters lent.
 pub const ROWS: usize = 600;
 
-const KEYS: usize = 8 * ROWS;
+const KEYS: usize = Question::ATOMS * ROWS;
 
 const PATH: usize = 2 * ROWS;
 

@@ -1,4 +1,5 @@
 // The path area of a built table, by where each of its states comes up first.
+use scope::Question;
 
 fn put(path: &mut [u16], at: usize, cell: u16) {
     if at < path.len() {
@@ -11,7 +12,7 @@ pub fn letter_of(column: usize) -> u8 {
     if column < 1 {
         return 0;
     }
-    if 64 < column {
+    if Question::LETTERS < column {
         return 0;
     }
     (column - 1) as u8
@@ -23,13 +24,13 @@ fn with_cell(states: usize, path: &mut [u16], cell: u16, row: usize, column: usi
     if column < 1 || next != states {
         return states;
     }
-    if 65_534 < states {
+    if Question::STATES <= states {
         return states;
     }
-    if 65_535 < row {
+    if Question::STATES < row {
         return states;
     }
-    if 64 < column {
+    if Question::LETTERS < column {
         return states;
     }
     put(path, 2 * states, row as u16);

@@ -2,9 +2,10 @@
 ghost use Prim.Native.Nat.{_≤_};
 ghost use lib.ListN.{length};
 use crate::chance::roll;
+use scope::Question;
 
-// The nots of a formula at most: with 7 connectives of 8 atoms, no part is deeper than 16.
-const NOTS: usize = 8;
+// The nots of a formula at most: under these and its ands and ors, one fewer than its atoms, no part is too deep.
+const NOTS: usize = Question::DEPTH - Question::ATOMS;
 
 // The parts still due, the atoms still to come, and the nots still allowed.
 struct Parts {
@@ -22,7 +23,7 @@ fn less(x: usize) -> usize {
 }
 
 fn more(x: usize) -> usize {
-    if x < 64 { x + 1 } else { x }
+    if x < Question::NODES { x + 1 } else { x }
 }
 
 // One of two codes.

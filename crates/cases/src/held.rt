@@ -1,16 +1,21 @@
 // The held question of a formula and its numbers, and whether two held questions are the same.
 ghost use Prim.Native.Nat.{_<_};
 use crate::sides::CELLS;
+use crate::sides::COLUMNS;
+use crate::sides::CONSTANT_LEFT;
+use crate::sides::CONSTANT_RIGHT;
+use crate::sides::MOST_CONSTANT;
+use crate::sides::ROW;
 use compared::same_bytes;
 use compared::same_numbers;
 use scope::Question;
 
-// A number by what stands on either side; no number has a million and more.
+// A number by what stands on either side; no number has more than the largest constant.
 pub fn signed(plus: u64, minus: u64) -> i32 {
-    if 1_000_000 < plus {
+    if MOST_CONSTANT < plus {
         return 0;
     }
-    if 1_000_000 < minus {
+    if MOST_CONSTANT < minus {
         return 0;
     }
     plus as i32 - minus as i32
@@ -18,46 +23,46 @@ pub fn signed(plus: u64, minus: u64) -> i32 {
 
 // The number in a column of an atom: what stands left, less what stands right.
 fn number_at(sides: &[u64; CELLS], atom: usize, column: usize) -> i32 {
-    if 7 < atom {
+    if Question::ATOMS <= atom {
         return 0;
     }
-    if 6 < column {
+    if COLUMNS <= column {
         return 0;
     }
-    let at = 14 * atom + 2 * column;
+    let at = ROW * atom + 2 * column;
     signed(sides[at], sides[at + 1])
 }
 
 // A constant stands right of the sign, so its sides are the other way round.
 fn constant_at(sides: &[u64; CELLS], atom: usize) -> i32 {
-    if 7 < atom {
+    if Question::ATOMS <= atom {
         return 0;
     }
-    let at = 14 * atom + 12;
-    signed(sides[at + 1], sides[at])
+    let at = ROW * atom;
+    signed(sides[at + CONSTANT_RIGHT], sides[at + CONSTANT_LEFT])
 }
 
-fn coefficients_of(sides: &[u64; CELLS]) -> [i32; 48] {
-    let mut all = [0i32; 48];
+fn coefficients_of(sides: &[u64; CELLS]) -> [i32; Question::COEFFICIENTS] {
+    let mut all = [0i32; Question::COEFFICIENTS];
     let mut c = 0;
-    while c < 48 {
-        all[c] = number_at(sides, c / 6, c % 6);
+    while c < Question::COEFFICIENTS {
+        all[c] = number_at(sides, c / Question::VARIABLES, c % Question::VARIABLES);
         c += 1;
     }
     all
 }
 
-fn constants_of(sides: &[u64; CELLS]) -> [i32; 8] {
-    let mut all = [0i32; 8];
+fn constants_of(sides: &[u64; CELLS]) -> [i32; Question::ATOMS] {
+    let mut all = [0i32; Question::ATOMS];
     let mut i = 0;
-    while i < 8 {
+    while i < Question::ATOMS {
         all[i] = constant_at(sides, i);
         i += 1;
     }
     all
 }
 
-pub fn question_of(n: u8, codes: [u8; 64], sides: &[u64; CELLS]) -> Question {
+pub fn question_of(n: u8, codes: [u8; Question::NODES], sides: &[u64; CELLS]) -> Question {
     let coefficients = coefficients_of(sides);
     let constants = constants_of(sides);
     Question {
@@ -76,7 +81,7 @@ pub fn same_question(a: Question, b: Question) -> bool {
     let other_coefficients = b.coefficients;
     let other_constants = b.constants;
     a.n == b.n
-        && same_bytes(&codes, &other_codes, 64)
-        && same_numbers(&coefficients, &other_coefficients, 48)
-        && same_numbers(&constants, &other_constants, 8)
+        && same_bytes(&codes, &other_codes, Question::NODES)
+        && same_numbers(&coefficients, &other_coefficients, Question::COEFFICIENTS)
+        && same_numbers(&constants, &other_constants, Question::ATOMS)
 }

@@ -9,6 +9,9 @@ use crate::plain::order_of;
 use crate::plain::settled;
 use crate::plain::weighed;
 use crate::plain::with_atom;
+use crate::sides::CONSTANT_LEFT;
+use crate::sides::CONSTANT_RIGHT;
+use crate::sides::ROW;
 use crate::sides::row_of;
 use crate::spelled::stretch;
 use crate::spelled::values_of;
@@ -54,12 +57,12 @@ fn with_piece(scales: Scales, row: &[u64], piece: &[u8], n: usize) -> Scales {
 }
 
 fn order_by(row: &[u64], n: usize, word: &[u8]) -> u64 {
-    if row.len() < 14 {
+    if row.len() < ROW {
         return 0;
     }
     let mut scales = Scales {
-        left: row[12],
-        right: row[13],
+        left: row[CONSTANT_LEFT],
+        right: row[CONSTANT_RIGHT],
         order: 0,
     };
     let mut at = 0;

@@ -2,7 +2,9 @@
 // the formula is settled from its last node to its first.
 use crate::formulas::is_atom;
 use crate::sides::COLUMNS;
+use crate::sides::ROW;
 use crate::sides::row_of;
+use scope::Question;
 
 pub struct Sums {
     pub left: u64,
@@ -42,7 +44,7 @@ pub fn plus(a: u64, b: u64) -> u64 {
 pub fn weighed(sums: Sums, row: &[u64], values: &[u64; COLUMNS]) -> Sums {
     let mut left = sums.left;
     let mut right = sums.right;
-    if row.len() < 14 {
+    if row.len() < ROW {
         return Sums { left, right };
     }
     let mut j = 0;
@@ -64,7 +66,11 @@ pub fn with_atom(worths: Worths, holds: bool) -> Worths {
     let atoms = worths.atoms;
     Worths {
         bits: pushed(worths.bits, holds),
-        atoms: if atoms < 64 { atoms + 1 } else { atoms },
+        atoms: if atoms < Question::NODES {
+            atoms + 1
+        } else {
+            atoms
+        },
     }
 }
 

@@ -19,8 +19,12 @@ use scope::Question;
 use scope::ReadAnswer;
 use scope::WriteAnswer;
 
-// The questions, and the bytes of one at most.
-const QUESTIONS: u64 = 960;
+const VARIABLES: u64 = Question::VARIABLES as u64;
+
+const ATOMS: u64 = Question::ATOMS as u64;
+
+// The questions, twenty for each n and m, and the bytes of one at most.
+const QUESTIONS: u64 = 20 * VARIABLES * ATOMS;
 
 const BYTES: usize = 512;
 
@@ -64,7 +68,7 @@ fn compare(
 
 // Draws a question with n variables and m atoms, writes it, reads it back, and compares what the calls say of its bytes.
 fn ask(number: u64, n: u8, m: usize, seed: &mut u64, counts: &mut [u64]) {
-    let mut codes = [0u8; 64];
+    let mut codes = [0u8; Question::NODES];
     let mut sides = [0u64; CELLS];
     let nodes = draw_formula(m, seed, &mut codes);
     let scale = roll(seed, 7);
@@ -93,8 +97,8 @@ pub fn run() {
     let mut seed = 20_260_101;
     let mut number = 0;
     while number < QUESTIONS {
-        let n = (number % 6) as u8 + 1;
-        let m = (number / 6 % 8) as usize + 1;
+        let n = (number % VARIABLES) as u8 + 1;
+        let m = (number / VARIABLES % ATOMS) as usize + 1;
         ask(number, n, m, &mut seed, &mut counts);
         number += 1;
     }

@@ -1,10 +1,14 @@
 // The first word that reaches a state, by the path area, as the values that it spells.
 use crate::sides::COLUMNS;
+use crate::sides::CONSTANT;
 use crate::spelled::digit;
 use crate::spelled::doubled;
+use scope::Question;
 
 // 2 to the letters of a word that is spelled at most.
 const MOST: u64 = 549_755_813_888;
+
+const LETTERS: u16 = Question::LETTERS as u16;
 
 // The values and 2 to the letters: sound where every row of the path leads to an earlier one, and whole where they lead to the start
 // by no more letters than are spelled.
@@ -33,7 +37,7 @@ pub fn edge_of(path: &[u16], state: usize) -> Edge {
         from: 0,
         letter: 0,
     };
-    if 65_535 < state {
+    if Question::STATES < state {
         return none;
     }
     let at = 2 * state;
@@ -41,7 +45,7 @@ pub fn edge_of(path: &[u16], state: usize) -> Edge {
         return none;
     }
     let letter = path[at + 1];
-    if 63 < letter {
+    if LETTERS <= letter {
         return none;
     }
     Edge {
@@ -54,7 +58,7 @@ pub fn edge_of(path: &[u16], state: usize) -> Edge {
 // Makes the values those of the word with a letter before all others.
 fn put_letter(values: &mut [u64; COLUMNS], letter: u8) {
     let mut j = 0;
-    while j < 6 {
+    while j < Question::VARIABLES {
         values[j] = doubled(values[j], digit(letter, j));
         j += 1;
     }
@@ -62,7 +66,7 @@ fn put_letter(values: &mut [u64; COLUMNS], letter: u8) {
 
 fn reached_so(sound: bool, whole: bool, values: [u64; COLUMNS], power: u64) -> Reached {
     let mut all = values;
-    all[6] = 1;
+    all[CONSTANT] = 1;
     Reached {
         sound,
         whole,

@@ -1,13 +1,32 @@
-// A question's numbers without signs. Row i of 14 cells is atom i's, two cells a column: what stands left and what stands right when
-// every term is on the side where it is added. Columns 0 to 5 are the variables', and the last one is the constant's.
+// A question's numbers without signs. Row i is atom i's, two cells a column: what stands left and what stands right when
+// every term is on the side where it is added. The variables' columns come first, and the last one is the constant's.
 ghost use Prim.Native.Nat.{_≤_, _<_};
 ghost use lib.ListN.{length};
 use crate::chance::roll;
+use scope::Question;
 
-pub const COLUMNS: usize = 7;
+// The constant's column.
+pub const CONSTANT: usize = Question::VARIABLES;
+
+pub const COLUMNS: usize = CONSTANT + 1;
+
+// The cells of a row, and where the constant's two stand in it.
+pub const ROW: usize = 2 * COLUMNS;
+
+pub const CONSTANT_LEFT: usize = 2 * CONSTANT;
+
+pub const CONSTANT_RIGHT: usize = CONSTANT_LEFT + 1;
 
 // The cells of all rows.
-pub const CELLS: usize = 112;
+pub const CELLS: usize = ROW * Question::ATOMS;
+
+// The largest numbers of an atom, without their sign.
+pub const MOST_CONSTANT: u64 = Question::CONSTANT as u64;
+
+const MOST_COEFFICIENT: u64 = Question::COEFFICIENT as u64;
+
+// The columns of all rows.
+const ALL: usize = COLUMNS * Question::ATOMS;
 
 struct Sides {
     left: u64,
@@ -18,12 +37,16 @@ struct Sides {
 fn most_of(column: usize, scale: u64) -> u64
     ensures { λ r. ⌜ r ≤ 1000000 ⌝ }
 {
-    let constant = column == 6;
+    let constant = column == CONSTANT;
     match scale {
         0 | 1 | 2 => if constant { 2 } else { 1 },
         3 | 4 => if constant { 9 } else { 2 },
         5 => if constant { 40 } else { 7 },
-        _ => if constant { 1_000_000 } else { 4_096 },
+        _ => if constant {
+            MOST_CONSTANT
+        } else {
+            MOST_COEFFICIENT
+        },
     }
 }
 
@@ -45,7 +68,7 @@ fn draw_sides(most: u64, seed: &mut u64) -> Sides
 }
 
 fn draw_column(n: usize, column: usize, scale: u64, seed: &mut u64) -> Sides {
-    if column < n || column == 6 {
+    if column < n || column == CONSTANT {
         draw_sides(most_of(column, scale), seed)
     } else {
         Sides { left: 0, right: 0 }
@@ -55,7 +78,7 @@ fn draw_column(n: usize, column: usize, scale: u64, seed: &mut u64) -> Sides {
 // Draws the numbers of the first atoms in cells that hold zero.
 pub fn draw_numbers(n: usize, m: usize, scale: u64, seed: &mut u64, sides: &mut [u64; CELLS]) {
     let mut c = 0;
-    while c < 56 {
+    while c < ALL {
         if c / COLUMNS < m {
             let both = draw_column(n, c % COLUMNS, scale, seed);
             put_sides(sides, 2 * c, both);
@@ -75,11 +98,11 @@ fn put_sides(sides: &mut [u64; CELLS], at: usize, both: Sides)
 
 // The row of an atom; the empty one where there is no such atom.
 pub fn row_of<'a>(sides: &'a [u64], atom: usize) -> &'a [u64] {
-    if 7 < atom {
+    if Question::ATOMS <= atom {
         return &sides[..0];
     }
-    let at = 14 * atom;
-    let end = at + 14;
+    let at = ROW * atom;
+    let end = at + ROW;
     if end <= sides.len() {
         &sides[at..end]
     } else {

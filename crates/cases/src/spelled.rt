@@ -1,6 +1,8 @@
 // What words spell for each variable, and whether the call that spells says the same.
 ghost use Prim.Native.Nat.{_<_};
 use crate::sides::COLUMNS;
+use crate::sides::CONSTANT;
+use scope::Question;
 use scope::SpellAnswer;
 
 // A letter's digit for the variable at index j.
@@ -35,9 +37,9 @@ fn value_of(word: &[u8], j: usize) -> u64 {
 // What a word of at most 40 letters spells, and the constants' value.
 pub fn values_of(word: &[u8], n: usize, constant: u64) -> [u64; COLUMNS] {
     let mut values = [0u64; COLUMNS];
-    values[6] = constant;
+    values[CONSTANT] = constant;
     let mut j = 0;
-    while j < 6 && j < n {
+    while j < Question::VARIABLES && j < n {
         values[j] = value_of(word, j);
         j += 1;
     }
@@ -56,7 +58,7 @@ fn spells_value(n: usize, j: usize, word: &[u8]) -> bool
 // Whether the call spells the same for every variable of a word of at most 40 letters.
 pub fn spells(n: usize, word: &[u8]) -> bool {
     let mut j = 0;
-    while j < 6 && j < n {
+    while j < Question::VARIABLES && j < n {
         if !spells_value(n, j, word) {
             return false;
         }

@@ -2,6 +2,8 @@
 use crate::chance::roll;
 use crate::plain::satisfied;
 use crate::sides::COLUMNS;
+use crate::sides::CONSTANT;
+use scope::Question;
 use scope::TruthAnswer;
 
 // The tuples of a question at most, and one in how many is judged.
@@ -32,7 +34,7 @@ fn largest(n: usize) -> u64 {
 // Makes the tuple the next one, the first variable fastest; false where it was the last.
 fn next_tuple(values: &mut [u64; COLUMNS], n: usize, largest: u64) -> bool {
     let mut j = 0;
-    while j < 6 && j < n {
+    while j < Question::VARIABLES && j < n {
         if values[j] < largest {
             values[j] += 1;
             return true;
@@ -86,7 +88,7 @@ fn with_tuple(tried: Tried, bytes: &[u8], n: usize, values: &[u64; COLUMNS], yes
 // Tries all tuples of small values.
 pub fn small_tuples(codes: &[u8], sides: &[u64], n: usize, bytes: &[u8]) -> Tried {
     let mut values = [0u64; COLUMNS];
-    values[6] = 1;
+    values[CONSTANT] = 1;
     let mut tried = Tried {
         any: false,
         tuples: 0,
@@ -109,9 +111,9 @@ pub fn small_tuples(codes: &[u8], sides: &[u64], n: usize, bytes: &[u8]) -> Trie
 // A tuple of values up to the judge's limit.
 fn draw_tuple(seed: &mut u64) -> [u64; COLUMNS] {
     let mut values = [0u64; COLUMNS];
-    values[6] = 1;
+    values[CONSTANT] = 1;
     let mut j = 0;
-    while j < 6 {
+    while j < Question::VARIABLES {
         let high = roll(seed, 1_048_576);
         values[j] = 1_048_576 * high + roll(seed, 1_048_576);
         j += 1;

@@ -32,7 +32,7 @@ fn room(keys: usize, path: usize, m: usize) -> usize
 }
 
 // The start as row 0.
-fn put_start(constants: &[i32; 8], m: usize, keys: &mut [i32], path: &mut [u16])
+fn put_start(constants: &[i32; Question::ATOMS], m: usize, keys: &mut [i32], path: &mut [u16])
     requires { ⌜ (m ≤ 8) × (m ≤ length (now constants)) × (m ≤ length (now keys)) × (2 ≤ length (now path)) ⌝ }
     ensures { λ _. ⌜ StartPut (now (constants .entry)) m (now (keys .entry)) (now (keys .exit)) (now (path .entry)) (now (path .exit)) ⌝ }
 {
@@ -98,10 +98,10 @@ fn answer(explored: Explored, path: &[u16], word: &mut [u8]) -> DecideAnswer
 // Numbers a question's rows from its start on, until one accepts.
 fn explore_question(
     n: usize,
-    codes: &[u8; 64],
-    coefficients: &[i32; 48],
-    constants: &[i32; 8],
-    kinds: &[u8; 8],
+    codes: &[u8; Question::NODES],
+    coefficients: &[i32; Question::COEFFICIENTS],
+    constants: &[i32; Question::ATOMS],
+    kinds: &[u8; Question::ATOMS],
     m: usize,
     rows: usize,
     keys: &mut [i32],
@@ -121,9 +121,9 @@ fn explore_question(
 // Decides a question that was accepted, which is handed over by its parts.
 fn decide_question(
     n: usize,
-    codes: &[u8; 64],
-    coefficients: &[i32; 48],
-    constants: &[i32; 8],
+    codes: &[u8; Question::NODES],
+    coefficients: &[i32; Question::COEFFICIENTS],
+    constants: &[i32; Question::ATOMS],
     keys: &mut [i32],
     path: &mut [u16],
     word: &mut [u8],

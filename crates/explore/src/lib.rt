@@ -4,6 +4,8 @@ use index::NONE;
 use index::add;
 use index::find;
 use index::insert_rows;
+use scope::Question;
+use step::SUMS;
 use step::step_row;
 use step::worths_at;
 ghost use mathlib.Core.Path.{_≡_};
@@ -122,19 +124,25 @@ fn put_path(path: &mut [u16], deciding: bool, count: usize, row: usize, letter: 
 }
 
 // Whether the key row that starts at cell `at` accepts.
-pub fn accepts(codes: &[u8; 64], kinds: &[u8; 8], m: usize, keys: &[i32], at: usize) -> bool
+pub fn accepts(
+    codes: &[u8; Question::NODES],
+    kinds: &[u8; Question::ATOMS],
+    m: usize,
+    keys: &[i32],
+    at: usize,
+) -> bool
     requires { ⌜ (length (now codes) ≡ 64) × (m ≤ 8) × (at + m ≤ length (now keys)) ⌝ }
     ensures { λ r. ⌜ r ≡ formulaWorth (map nodeOf (now (codes .entry))) (worthCells (now (kinds .entry)) m (now (keys .entry)) at) ⌝ }
 {
-    let mut worths = [false; 8];
+    let mut worths = [false; Question::ATOMS];
     worths_at(kinds, m, keys, at, &mut worths);
     formula_worth(codes, &worths)
 }
 
 // The same where deciding asks for it, and else false.
 fn asks_accepts(
-    codes: &[u8; 64],
-    kinds: &[u8; 8],
+    codes: &[u8; Question::NODES],
+    kinds: &[u8; Question::ATOMS],
     m: usize,
     keys: &[i32],
     at: usize,
@@ -151,15 +159,15 @@ fn asks_accepts(
 
 // Numbers the key's state as row count, from a letter of a row; and whether deciding finds that it accepts.
 fn add_row(
-    codes: &[u8; 64],
-    kinds: &[u8; 8],
+    codes: &[u8; Question::NODES],
+    kinds: &[u8; Question::ATOMS],
     m: usize,
     keys: &mut [i32],
     path: &mut [u16],
     head: &mut [u16],
     next: &mut [u16],
     deciding: bool,
-    key: &[i32; 8],
+    key: &[i32; Question::ATOMS],
     count: usize,
     row: usize,
     letter: usize,
@@ -177,16 +185,16 @@ fn add_row(
 
 // Tries a letter at a row: its target, worked in a row that is lent, has a row already, or gets the next one, or there is none left.
 fn try_letter(
-    codes: &[u8; 64],
-    kinds: &[u8; 8],
+    codes: &[u8; Question::NODES],
+    kinds: &[u8; Question::ATOMS],
     m: usize,
-    sums: &[i32; 512],
+    sums: &[i32; SUMS],
     letters: usize,
     keys: &mut [i32],
     path: &mut [u16],
     head: &mut [u16],
     next: &mut [u16],
-    key: &mut [i32; 8],
+    key: &mut [i32; Question::ATOMS],
     rows: usize,
     deciding: bool,
     count: usize,
@@ -228,10 +236,10 @@ fn try_letter(
 
 // Tries letter after letter and row after row, from a letter of a row on, until a state is accepted, no row is left, or every row is expanded.
 fn explore(
-    codes: &[u8; 64],
-    kinds: &[u8; 8],
+    codes: &[u8; Question::NODES],
+    kinds: &[u8; Question::ATOMS],
     m: usize,
-    sums: &[i32; 512],
+    sums: &[i32; SUMS],
     letters: usize,
     keys: &mut [i32],
     path: &mut [u16],
@@ -249,7 +257,7 @@ fn explore(
     ensures { λ r. ⌜ Ended (cellMachine (now (codes .entry)) (now (kinds .entry)) m (now (sums .entry)) letters (take m (now (keys .entry)))) m rows deciding (now (keys .entry)) (now (path .entry)) count (now (keys .exit)) (now (path .exit)) r ⌝ }
     ensures { λ r. ⌜ (r .stopped ≡ false → Linked m rows (now (keys .exit)) (now (head .exit)) (now (next .exit)) (r .count)) ⌝ }
 {
-    let mut key = [0i32; 8];
+    let mut key = [0i32; Question::ATOMS];
     let mut s = Stand::going(count, row, letter);
     while s.row < s.count {
         s = try_letter(
@@ -278,10 +286,10 @@ fn explore(
 
 // The same with an index that has no row yet. Where every row is expanded, it has them all.
 pub fn resume(
-    codes: &[u8; 64],
-    kinds: &[u8; 8],
+    codes: &[u8; Question::NODES],
+    kinds: &[u8; Question::ATOMS],
     m: usize,
-    sums: &[i32; 512],
+    sums: &[i32; SUMS],
     letters: usize,
     keys: &mut [i32],
     path: &mut [u16],
@@ -320,10 +328,10 @@ pub fn resume(
 
 // Deciding: explores from the start, with a small index.
 fn explore_few(
-    codes: &[u8; 64],
-    kinds: &[u8; 8],
+    codes: &[u8; Question::NODES],
+    kinds: &[u8; Question::ATOMS],
     m: usize,
-    sums: &[i32; 512],
+    sums: &[i32; SUMS],
     letters: usize,
     keys: &mut [i32],
     path: &mut [u16],
@@ -356,10 +364,10 @@ fn explore_few(
 
 // Deciding: explores on from where it stands, with a large one.
 fn explore_many(
-    codes: &[u8; 64],
-    kinds: &[u8; 8],
+    codes: &[u8; Question::NODES],
+    kinds: &[u8; Question::ATOMS],
     m: usize,
-    sums: &[i32; 512],
+    sums: &[i32; SUMS],
     letters: usize,
     keys: &mut [i32],
     path: &mut [u16],
@@ -401,10 +409,10 @@ pub fn least(a: usize, b: usize) -> usize
 // Deciding: numbers the states from the start's, which is row 0 already and does not accept, in at most so many rows, writes the path area, and
 // stops at the first state that accepts.
 pub fn number_rows(
-    codes: &[u8; 64],
-    kinds: &[u8; 8],
+    codes: &[u8; Question::NODES],
+    kinds: &[u8; Question::ATOMS],
     m: usize,
-    sums: &[i32; 512],
+    sums: &[i32; SUMS],
     letters: usize,
     keys: &mut [i32],
     path: &mut [u16],

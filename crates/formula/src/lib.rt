@@ -23,7 +23,13 @@ impl Part {
 }
 
 // The part that starts at a node, where atom is the next one that counts; false where the depth, the nodes or the atoms run out.
-pub fn settle(codes: &[u8; 64], worths: &[bool; 8], node: usize, atom: usize, depth: usize) -> Part
+pub fn settle(
+    codes: &[u8; Question::NODES],
+    worths: &[bool; Question::ATOMS],
+    node: usize,
+    atom: usize,
+    depth: usize,
+) -> Part
     requires { ⌜ Placed (now codes) (now worths) node atom ⌝ }
     ensures { λ r. ⌜ Settles (now (codes .entry)) (now (worths .entry)) node atom depth r ⌝ }
 {
@@ -65,7 +71,7 @@ pub fn settle(codes: &[u8; 64], worths: &[bool; 8], node: usize, atom: usize, de
 }
 
 // Whether the formula is true when each atom is worth what stands at its number.
-pub fn formula_worth(codes: &[u8; 64], worths: &[bool; 8]) -> bool
+pub fn formula_worth(codes: &[u8; Question::NODES], worths: &[bool; Question::ATOMS]) -> bool
     requires { ⌜ (length (now codes) ≡ 64) × (length (now worths) ≡ 8) ⌝ }
     ensures { λ r. ⌜ r ≡ formulaWorth (map nodeOf (now (codes .entry))) (now (worths .entry)) ⌝ }
 {

@@ -1,5 +1,6 @@
 // The index over numbered rows of key cells: it finds the row that has a key's cells without looking at every row, so exploring is linear.
 // The rows of a bucket are chained newest first: `head` has each bucket's newest row, and `next` for each row the newest before it.
+use scope::Question;
 ghost use mathlib.Core.Path.{_≡_};
 ghost use Prim.Native.Nat.{_+_, _*_, _≤_, _<_};
 ghost use lib.ListN.{length, getD, set, take};
@@ -9,7 +10,8 @@ ghost use Rattle.index.specs.Hash.{codeOf, hashOf, bucketOf};
 ghost use Rattle.index.specs.Index.{Key, Says, Indexed, Finds, Room, Sized, Added};
 
 // No row: the link of a bucket that has none, and of a bucket's oldest row. Where every bucket has it, no row is indexed.
-pub const NONE: u16 = 65_535;
+// It is the first number that no row can have.
+pub const NONE: u16 = Question::STATES as u16;
 
 // A cell as a number that is not negative.
 fn code(x: i32) -> usize
@@ -21,7 +23,7 @@ fn code(x: i32) -> usize
 // The hash of a key: the codes of its cells, each by an odd number of its own, are added up, and then the halves of the sum. The products are
 // all under way at once, and there is no test, since past a row's own cells a key has 0. Chains are about as
 // short as by chance for rows of small numbers and dead cells.
-fn hash(key: &[i32; 8]) -> usize
+fn hash(key: &[i32; Question::ATOMS]) -> usize
     requires { ⌜ length (now key) ≡ 8 ⌝ }
     ensures { λ r. ⌜ (r ≡ hashOf (now (key .entry))) × (r < 4294967296) ⌝ }
 {
@@ -38,7 +40,7 @@ fn hash(key: &[i32; 8]) -> usize
 }
 
 // The bucket, of n, of a key.
-fn bucket(key: &[i32; 8], n: usize) -> usize
+fn bucket(key: &[i32; Question::ATOMS], n: usize) -> usize
     requires { ⌜ (length (now key) ≡ 8) × (0 < n) × (n ≤ 65536) ⌝ }
     ensures { λ r. ⌜ (r ≡ bucketOf n (now (key .entry))) × (r < n) ⌝ }
 {
@@ -46,13 +48,13 @@ fn bucket(key: &[i32; 8], n: usize) -> usize
 }
 
 // Whether the row has the key's first m cells. The loop's length is fixed, so that it is laid out flat.
-fn same_row(keys: &[i32], m: usize, row: usize, key: &[i32; 8]) -> bool
+fn same_row(keys: &[i32], m: usize, row: usize, key: &[i32; Question::ATOMS]) -> bool
     requires { ⌜ (m ≤ 8) × (m ≤ length (now key)) × (row * m + m ≤ length (now keys)) ⌝ }
     ensures { λ r. ⌜ Says r (rowAt (now (keys .entry)) m row ≡ take m (now (key .entry))) ⌝ }
 {
     let base = row * m;
     let mut i = 0;
-    while i < 8 {
+    while i < Question::ATOMS {
         if i < m {
             if keys[base + i] != key[i] {
                 return false;
@@ -67,7 +69,7 @@ fn same_row(keys: &[i32], m: usize, row: usize, key: &[i32; 8]) -> bool
 pub fn find(
     keys: &[i32],
     m: usize,
-    key: &[i32; 8],
+    key: &[i32; Question::ATOMS],
     head: &[u16],
     next: &[u16],
     count: usize,
@@ -89,7 +91,7 @@ pub fn find(
 }
 
 // Stores the key's first m cells as the row's.
-pub fn store_row(keys: &mut [i32], m: usize, row: usize, key: &[i32; 8])
+pub fn store_row(keys: &mut [i32], m: usize, row: usize, key: &[i32; Question::ATOMS])
     requires { ⌜ (m ≤ 8) × (m ≤ length (now key)) × (row * m + m ≤ length (now keys)) ⌝ }
     ensures { λ _. ⌜ now (keys .exit) ≡ paste (now (keys .entry)) (row * m) (now (key .entry)) m ⌝ }
 {
@@ -103,12 +105,12 @@ pub fn store_row(keys: &mut [i32], m: usize, row: usize, key: &[i32; 8])
 }
 
 // The row's cells as a key, with 0 past them.
-fn load_row(keys: &[i32], m: usize, row: usize) -> [i32; 8]
+fn load_row(keys: &[i32], m: usize, row: usize) -> [i32; Question::ATOMS]
     requires { ⌜ (m ≤ 8) × (row * m + m ≤ length (now keys)) ⌝ }
     ensures { λ r. ⌜ (take m r ≡ rowAt (now (keys .entry)) m row) × Key m r ⌝ }
 {
     let base = row * m;
-    let mut key = [0i32; 8];
+    let mut key = [0i32; Question::ATOMS];
     let mut i = 0;
     while i < m {
         let x = keys[base + i];
@@ -131,7 +133,7 @@ fn link(head: &mut [u16], next: &mut [u16], b: usize, count: usize)
 pub fn insert(
     keys: &[i32],
     m: usize,
-    key: &[i32; 8],
+    key: &[i32; Question::ATOMS],
     head: &mut [u16],
     next: &mut [u16],
     count: usize,
@@ -149,7 +151,7 @@ pub fn insert(
 pub fn add(
     keys: &mut [i32],
     m: usize,
-    key: &[i32; 8],
+    key: &[i32; Question::ATOMS],
     head: &mut [u16],
     next: &mut [u16],
     count: usize,

@@ -27,7 +27,7 @@ fn product(a: i32, x: u64) -> i64
 }
 
 // The sum of a_j x_j, where the coefficients stand from a place on: from the last variable on.
-fn sum_at(coefficients: &[i32; 48], at: usize, values: &[u64]) -> i64
+fn sum_at(coefficients: &[i32; Question::COEFFICIENTS], at: usize, values: &[u64]) -> i64
     requires { ⌜ Summable (now coefficients) at (now values) ⌝ }
     ensures { λ r. ⌜ r ≡ dot (rowAt (now (coefficients .entry)) at (now (values .entry))) (now (values .entry)) ⌝ }
 {
@@ -54,8 +54,8 @@ fn stands(code: u8, sum: i64, constant: i32) -> bool
 
 // Whether an atom holds for the values, by its code and its number.
 fn holds(
-    coefficients: &[i32; 48],
-    constants: &[i32; 8],
+    coefficients: &[i32; Question::COEFFICIENTS],
+    constants: &[i32; Question::ATOMS],
     code: u8,
     atom: usize,
     values: &[u64],
@@ -76,7 +76,7 @@ fn is_atom(code: u8) -> bool
 }
 
 // The first atom's node from a node on; 64 where there is none.
-fn next_atom(codes: &[u8; 64], from: usize) -> usize
+fn next_atom(codes: &[u8; Question::NODES], from: usize) -> usize
     requires { ⌜ (length (now codes) ≡ 64) × (from ≤ 64) ⌝ }
     ensures { λ r. ⌜ NextAtom (now (codes .entry)) from r ⌝ }
 {
@@ -92,15 +92,15 @@ fn next_atom(codes: &[u8; 64], from: usize) -> usize
 
 // What each atom is worth to the values.
 fn worths_of(
-    codes: &[u8; 64],
-    coefficients: &[i32; 48],
-    constants: &[i32; 8],
+    codes: &[u8; Question::NODES],
+    coefficients: &[i32; Question::COEFFICIENTS],
+    constants: &[i32; Question::ATOMS],
     values: &[u64],
-) -> [bool; 8]
+) -> [bool; Question::ATOMS]
     requires { ⌜ Judgeable (asked (now codes) (now coefficients) (now constants) (now values)) (now values) ⌝ }
     ensures { λ r. ⌜ Worths (asked (now (codes .entry)) (now (coefficients .entry)) (now (constants .entry)) (now (values .entry))) (now (values .entry)) r ⌝ }
 {
-    let mut worths = [false; 8];
+    let mut worths = [false; Question::ATOMS];
     let mut atom = 0;
     let mut at = next_atom(codes, 0);
     while at < Question::NODES {

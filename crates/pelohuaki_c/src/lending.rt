@@ -52,9 +52,9 @@ pub fn put_parts(
 pub fn question_of(n: u8, codes: &[u8], coefficients: &[i32], constants: &[i32]) -> Question
     ensures { λ r. ⌜ r ≡ lentQuestion n (now (codes .entry)) (now (coefficients .entry)) (now (constants .entry)) ⌝ }
 {
-    let mut all_codes = [0u8; 64];
-    let mut all_coefficients = [0i32; 48];
-    let mut all_constants = [0i32; 8];
+    let mut all_codes = [0u8; Question::NODES];
+    let mut all_coefficients = [0i32; Question::COEFFICIENTS];
+    let mut all_constants = [0i32; Question::ATOMS];
     copy_bytes(codes, &mut all_codes);
     copy_numbers(coefficients, &mut all_coefficients);
     copy_numbers(constants, &mut all_constants);

@@ -8,10 +8,10 @@ ghost use Rattle.scope.specs.Question.{emptyQuestion};
 pub struct Question {
     pub n: u8,
     // In the formula's order: 0 unused, 1 equation, 2 at most, 3 not, 4 and, 5 or.
-    pub codes: [u8; 64],
+    pub codes: [u8; Question::NODES],
     // Row i of six, from 6 * i on, has the coefficients of atom i.
-    pub coefficients: [i32; 48],
-    pub constants: [i32; 8],
+    pub coefficients: [i32; Question::COEFFICIENTS],
+    pub constants: [i32; Question::ATOMS],
 }
 
 impl Question {
@@ -31,15 +31,21 @@ impl Question {
 
     pub const STATES: usize = 65_535;
 
+    // The coefficients of all atoms, a row of `VARIABLES` for each.
+    pub const COEFFICIENTS: usize = Self::VARIABLES * Self::ATOMS;
+
+    // A letter has one binary digit of every variable.
+    pub const LETTERS: usize = 1 << Self::VARIABLES;
+
     // The empty held question.
     pub fn empty() -> Self
         ensures { λ r. ⌜ r ≡ emptyQuestion ⌝ }
     {
         Question {
             n: 0,
-            codes: [0u8; 64],
-            coefficients: [0i32; 48],
-            constants: [0i32; 8],
+            codes: [0u8; Self::NODES],
+            coefficients: [0i32; Self::COEFFICIENTS],
+            constants: [0i32; Self::ATOMS],
         }
     }
 

@@ -11,6 +11,9 @@ ghost use Rattle.scope.specs.States.{sumAt};
 ghost use Rattle.step.specs.Eight.{padded};
 ghost use Rattle.step.specs.Cells.{kindOf, kindCodes, stepCell, worthCell, stepCells, worthCells, CellFits, Stepping, Coefficients, Sums};
 
+// Every letter's sum of every atom.
+pub const SUMS: usize = Question::LETTERS * Question::ATOMS;
+
 // The cell of a dead entry.
 const DEAD: i32 = -2_147_483_648;
 
@@ -33,13 +36,13 @@ fn step_cell(kind: u8, cell: i32, sum: i32) -> i32
 // Writes the target of the key row that starts at cell `at` at the front of a row that is lent: the cells past the target stay. The loop's
 // length is fixed, so that it is laid out flat.
 pub fn step_row(
-    kinds: &[u8; 8],
+    kinds: &[u8; Question::ATOMS],
     m: usize,
-    sums: &[i32; 512],
+    sums: &[i32; SUMS],
     letter: usize,
     keys: &[i32],
     at: usize,
-    row: &mut [i32; 8],
+    row: &mut [i32; Question::ATOMS],
 )
     requires { ⌜ Stepping m (now sums) letter (now keys) at ⌝ }
     requires { ⌜ m ≤ length (now row) ⌝ }
@@ -63,7 +66,13 @@ fn worth_cell(kind: u8, cell: i32) -> bool
 }
 
 // Writes what each atom is worth at the key row that starts at cell `at` at the front of the worths that are lent: those past the atoms stay.
-pub fn worths_at(kinds: &[u8; 8], m: usize, keys: &[i32], at: usize, worths: &mut [bool; 8])
+pub fn worths_at(
+    kinds: &[u8; Question::ATOMS],
+    m: usize,
+    keys: &[i32],
+    at: usize,
+    worths: &mut [bool; Question::ATOMS],
+)
     requires { ⌜ (m ≤ 8) × (at + m ≤ length (now keys)) × (m ≤ length (now worths)) ⌝ }
     ensures { λ _. ⌜ now (worths .exit) ≡ atFront (worthCells (now (kinds .entry)) m (now (keys .entry)) at) (now (worths .entry)) ⌝ }
 {
@@ -76,15 +85,15 @@ pub fn worths_at(kinds: &[u8; 8], m: usize, keys: &[i32], at: usize, worths: &mu
 
 // The atoms' kinds in their order, 1 equation and 2 at most, with 0 past them; and how many there are.
 pub struct Kinds {
-    pub kinds: [u8; 8],
+    pub kinds: [u8; Question::ATOMS],
     pub m: usize,
 }
 
-pub fn kinds_of(codes: &[u8; 64]) -> Kinds
+pub fn kinds_of(codes: &[u8; Question::NODES]) -> Kinds
     requires { ⌜ (length (now codes) ≡ 64) × (length (kindCodes (now codes)) ≤ 8) ⌝ }
     ensures { λ r. ⌜ (r .kinds ≡ padded 0 (kindCodes (now (codes .entry)))) × (r .m ≡ length (kindCodes (now (codes .entry)))) ⌝ }
 {
-    let mut kinds = [0u8; 8];
+    let mut kinds = [0u8; Question::ATOMS];
     let mut m = 0;
     let mut i = 0;
     while i < Question::NODES {
@@ -101,7 +110,7 @@ pub fn kinds_of(codes: &[u8; 64]) -> Kinds
 }
 
 // The sum of the coefficients, n from cell `from` on, of the variables whose digit in the letter is 1.
-fn sum_at(n: usize, coefficients: &[i32; 48], from: usize, letter: usize) -> i32
+fn sum_at(n: usize, coefficients: &[i32; Question::COEFFICIENTS], from: usize, letter: usize) -> i32
     requires { ⌜ (n ≤ 6) × (from + n ≤ 48) × (length (now coefficients) ≡ 48) × Small 4096 (take n (drop from (now coefficients))) ⌝ }
     ensures { λ r. ⌜ r ≡ sumAt (take n (drop from (now (coefficients .entry)))) letter ⌝ }
 {
@@ -127,12 +136,12 @@ pub fn letters(n: usize) -> usize
 }
 
 // Each letter's sum of each atom, that of atom i at 8 * letter + i.
-pub fn letter_sums(n: usize, m: usize, coefficients: &[i32; 48]) -> [i32; 512]
+pub fn letter_sums(n: usize, m: usize, coefficients: &[i32; Question::COEFFICIENTS]) -> [i32; SUMS]
     requires { ⌜ Coefficients n m (now coefficients) ⌝ }
     ensures { λ r. ⌜ Sums n m (now (coefficients .entry)) r ⌝ }
 {
     let end = Question::ATOMS * letters(n);
-    let mut sums = [0i32; 512];
+    let mut sums = [0i32; SUMS];
     let mut k = 0;
     while k < end {
         let i = k % Question::ATOMS;

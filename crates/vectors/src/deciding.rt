@@ -18,8 +18,9 @@ use compared::cells_of;
 use compared::numbers_filled;
 use compared::same_bytes;
 use scope::DecideAnswer;
+use scope::Question;
 
-const KEYS: usize = 8 * ROWS;
+const KEYS: usize = Question::ATOMS * ROWS;
 
 const PATH: usize = 2 * ROWS;
 

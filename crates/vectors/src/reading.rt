@@ -28,13 +28,13 @@ pub fn refused_as(line: &[u8], k: usize, refusal: Refusal) -> bool
 }
 
 fn same_codes(codes: &[u8], listed: &[u8]) -> bool {
-    let mut wanted = [0u8; 64];
+    let mut wanted = [0u8; Question::NODES];
     let count = small_numbers(listed, &mut wanted);
-    count.good && count.n == 64 && same_bytes(&wanted, codes, 64)
+    count.good && count.n == Question::NODES && same_bytes(&wanted, codes, Question::NODES)
 }
 
 fn same_signed(numbers: &[i32], listed: &[u8]) -> bool {
-    let mut wanted = [0i32; 48];
+    let mut wanted = [0i32; Question::COEFFICIENTS];
     let count = signed_numbers(listed, &mut wanted);
     let n = count.n;
     count.good && n == numbers.len() && same_numbers(&wanted, numbers, n)

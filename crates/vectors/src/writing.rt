@@ -26,12 +26,18 @@ fn is_all(count: Count, n: usize) -> bool {
 
 // The question in a line's words 1 to 4.
 fn asked(line: &[u8]) -> Given {
-    let mut codes = [0u8; 64];
-    let mut coefficients = [0i32; 48];
-    let mut constants = [0i32; 8];
-    let good = is_all(small_numbers(word(line, 2), &mut codes), 64)
-        && is_all(signed_numbers(word(line, 3), &mut coefficients), 48)
-        && is_all(signed_numbers(word(line, 4), &mut constants), 8);
+    let mut codes = [0u8; Question::NODES];
+    let mut coefficients = [0i32; Question::COEFFICIENTS];
+    let mut constants = [0i32; Question::ATOMS];
+    let good = is_all(small_numbers(word(line, 2), &mut codes), Question::NODES)
+        && is_all(
+            signed_numbers(word(line, 3), &mut coefficients),
+            Question::COEFFICIENTS,
+        )
+        && is_all(
+            signed_numbers(word(line, 4), &mut constants),
+            Question::ATOMS,
+        );
     let variables = size(word(line, 1));
     let n = variables.n;
     if 255 < n {
