@@ -3,7 +3,7 @@
  * proved to meet its contract, which fixes the answer and each lent cell for every input; the inline functions over them, at the end
  * of this file, are plain C and not proved. For C99 and C++11. docs/SCOPE.md has the whole of what the calls are to do.
  *
- *     rt staticlib pelohuaki_c
+ *     tools/run archive
  *     cc -std=c99 -Iinclude examples/c/ask.c -Ltarget/staticlib -lpelohuaki_c
  *
  * BUFFERS. Each buffer is a pointer and its length, which counts cells and not bytes. A pointer is aligned for its cells; with
@@ -249,7 +249,7 @@ static inline struct pelohuaki_place pelohuaki_open(const uint8_t *bytes, size_t
 }
 
 /* The record at the place, which is moved past it. Where it is refused, by 1, the place stays and the record has no bytes. */
-static inline uint64_t pelohuaki_take_record(struct pelohuaki_place *place, struct pelohuaki_record *record)
+static inline uint64_t pelohuaki_next_record(struct pelohuaki_place *place, struct pelohuaki_record *record)
 {
     uint64_t told[5];
     uint64_t number = pelohuaki_record_at(place->bytes, place->len, place->at, told, 5);
@@ -263,9 +263,9 @@ static inline uint64_t pelohuaki_take_record(struct pelohuaki_place *place, stru
 }
 
 /* The record at the place, which is not moved. */
-static inline uint64_t pelohuaki_next_record(struct pelohuaki_place place, struct pelohuaki_record *record)
+static inline uint64_t pelohuaki_peek_record(struct pelohuaki_place place, struct pelohuaki_record *record)
 {
-    return pelohuaki_take_record(&place, record);
+    return pelohuaki_next_record(&place, record);
 }
 
 #ifdef __cplusplus

@@ -25,8 +25,8 @@ pub fn handed(question: &Question) -> pelohuaki::Question {
 }
 
 /// The record at the place, which is moved past it.
-pub fn take_record<'b>(place: &mut pelohuaki::Place<'b>) -> Result<Record<'b>, Refusal> {
-    let record = place.take_record().map_err(refusal)?;
+pub fn next_record<'b>(place: &mut pelohuaki::Place<'b>) -> Result<Record<'b>, Refusal> {
+    let record = place.next_record().map_err(refusal)?;
     Ok(Record { kind: record.kind, body: record.body, next: record.next })
 }
 

@@ -115,7 +115,7 @@ fn records() {
         loop {
             let at = place.at();
             let step = reading::record(place.bytes(), at);
-            let taken = proved::take_record(&mut place);
+            let taken = proved::next_record(&mut place);
             assert_eq!(taken, step);
             // The body is that stretch of the bytes, and not a copy; a refused place stays.
             let Ok(record) = taken else {

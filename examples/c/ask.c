@@ -1,9 +1,7 @@
 /*
  * Asks 5x + y = 3 through every call, prints what is told, and holds each answer to document 01. Exits 1 where one differs.
  *
- *     rt staticlib pelohuaki_c
- *     cc -std=c99 -Wall -Wextra -Werror -Iinclude examples/c/ask.c -Ltarget/staticlib -lpelohuaki_c -o target/ask_c
- *     target/ask_c
+ *     tools/run c
  */
 #include <inttypes.h>
 #include <stdio.h>
@@ -76,18 +74,18 @@ static void step_through(const uint8_t *bytes)
 {
     struct pelohuaki_place place = pelohuaki_open(bytes, sizeof wire);
     struct pelohuaki_record record;
-    expect("record: refused", pelohuaki_next_record(place, &record), 0);
+    expect("record: refused", pelohuaki_peek_record(place, &record), 0);
     expect("  kind", record.kind, PELOHUAKI_KIND_HEAD);
     expect("  place, not moved", place.at, 0);
-    expect("record: refused", pelohuaki_take_record(&place, &record), 0);
+    expect("record: refused", pelohuaki_next_record(&place, &record), 0);
     expect("  n", record.body[0], VARIABLES);
-    expect("record: refused", pelohuaki_take_record(&place, &record), 0);
+    expect("record: refused", pelohuaki_next_record(&place, &record), 0);
     expect("  kind", record.kind, PELOHUAKI_KIND_EQUATION);
     expect("  body starts at", (uint64_t)(record.body - bytes), 9);
     expect("  its length", record.len, 12);
-    expect("record: refused", pelohuaki_take_record(&place, &record), 0);
+    expect("record: refused", pelohuaki_next_record(&place, &record), 0);
     expect("  kind", record.kind, PELOHUAKI_KIND_END);
-    expect("record after the end: refused", pelohuaki_take_record(&place, &record), PELOHUAKI_BYTES_END);
+    expect("record after the end: refused", pelohuaki_next_record(&place, &record), PELOHUAKI_BYTES_END);
     expect("  place, as it was", place.at, sizeof wire);
 }
 

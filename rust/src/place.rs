@@ -46,14 +46,14 @@ impl Record<'_> {
 ///     0x00, 0x00, 0xFF,
 /// ];
 /// let mut place = Place::open(&bytes);
-/// let head = place.take_record()?;
+/// let head = place.next_record()?;
 /// assert_eq!((head.kind, head.body), (Record::HEAD, &bytes[4..5]));
-/// let equation = place.take_record()?;
+/// let equation = place.next_record()?;
 /// assert_eq!((equation.kind, equation.place, equation.next), (Record::EQUATION, 5, 21));
 /// assert_eq!(equation.body.as_ptr(), bytes[9..].as_ptr());
 ///
 /// let refusal = Refusal { reason: Reason::Cut, place: 21 };
-/// assert_eq!(place.take_record(), Err(refusal));
+/// assert_eq!(place.next_record(), Err(refusal));
 /// assert_eq!(place.at(), 21);
 ///
 /// let kinds: Vec<_> = Place::open(&bytes).into_iter().map(|step| step.map(|r| r.kind)).collect();
@@ -83,7 +83,7 @@ impl<'b> Place<'b> {
     }
 
     /// The record at the place, which is not moved.
-    pub fn next_record(&self) -> Result<Record<'b>, Refusal> {
+    pub fn peek_record(&self) -> Result<Record<'b>, Refusal> {
         let mut told = [0; 5];
         let number = linked::record_at(self.bytes, self.at, &mut told);
         let [place, kind, start, length, next] = told;
@@ -97,8 +97,8 @@ impl<'b> Place<'b> {
     }
 
     /// The record at the place, which is moved past it; where it is refused, the place stays.
-    pub fn take_record(&mut self) -> Result<Record<'b>, Refusal> {
-        let record = self.next_record()?;
+    pub fn next_record(&mut self) -> Result<Record<'b>, Refusal> {
+        let record = self.peek_record()?;
         self.at = record.next;
         Ok(record)
     }
@@ -130,7 +130,7 @@ impl<'b> Iterator for Records<'b> {
         if self.stopped || self.place.at == self.place.bytes.len() {
             return None;
         }
-        let step = self.place.take_record();
+        let step = self.place.next_record();
         self.stopped = step.is_err();
         Some(step)
     }

@@ -1,11 +1,11 @@
 -- Document 01, on a place in a question: what a bare step makes of it, in terms of scope's answer at the record.
-use Prim.Native.Nat.{ℕ, _+_}
+use Prim.Native.Nat.{ℕ}
 use mathlib.Core.Path.{_≡_}
 use mathlib.Core.List.{List}
-use lib.ListN.{take, drop}
-use denote.Ref.{RefT, ptr, now}
+use denote.Ref.{now}
 use Rattle.scope.specs.declared.RecordAnswer.{RecordAnswer}
 use Rattle.scope.specs.Wire.{recordAt}
+use Rattle.wire.specs.Steps.{StretchOf}
 use Rattle.place.specs.declared.Place.{Place}
 use Rattle.place.specs.declared.Step.{Step}
 
@@ -25,11 +25,6 @@ startBy (RecordAnswer.Refused r) = 0
 abbrev pub lenBy : RecordAnswer → ℕ
 lenBy (RecordAnswer.Record kind start len next) = len
 lenBy (RecordAnswer.Refused r) = 0
-
--- a stretch of the caller's own bytes, uncopied: it lies in them, start bytes on, and holds len of them
-pub record StretchOf (bytes : RefT (List ℕ)) (start len : ℕ) (stretch : RefT (List ℕ)) : Type 0 where
-  pub lies : ptr stretch ≡ (ptr bytes .0, ptr bytes .1 + start)
-  pub holds : now stretch ≡ take len (drop start (now bytes))
 
 -- what a step from a place gives
 pub record Stepped (p : Place) (s : Step) : Type 0 where

@@ -1,11 +1,11 @@
 // A place in a question, opened on the caller's own bytes and moved record by record, as document 01 has it.
 // The struct holds the slice, so each function over it is thin, calls functions on plain slices, and is proved by hand, statement by statement.
 ghost use mathlib.Core.Path.{_≡_};
-ghost use Prim.Native.Nat.{_+_, _≤_};
-ghost use lib.ListN.{length};
 ghost use Rattle.scope.specs.Wire.{recordAt};
-ghost use Rattle.place.specs.Steps.{movedBy, startBy, lenBy, StretchOf, Stepped};
+ghost use Rattle.wire.specs.Steps.{BodyOf};
+ghost use Rattle.place.specs.Steps.{movedBy, startBy, lenBy, Stepped};
 use scope::RecordAnswer;
+use wire::body;
 use wire::record_at;
 
 pub struct Place<'a> {
@@ -29,7 +29,7 @@ pub fn open<'a>(bytes: &'a [u8]) -> Place<'a>
 }
 
 // The record at the place, which is not moved.
-pub fn next_record<'a>(place: Place<'a>) -> RecordAnswer
+pub fn peek_record<'a>(place: Place<'a>) -> RecordAnswer
     ensures { λ r. ⌜ r ≡ recordAt (now (place .entry .bytes)) (place .entry .at) ⌝ }
 {
     record_at(place.bytes, place.at)
@@ -49,16 +49,8 @@ fn moved(answer: RecordAnswer, at: usize) -> usize
     }
 }
 
-fn stretch<'a>(bytes: &'a [u8], start: usize, len: usize) -> &'a [u8]
-    requires { ⌜ start + len ≤ length (now bytes) ⌝ }
-    ensures { λ r. ⌜ StretchOf (bytes .entry) start len r ⌝ }
-{
-    &bytes[start..start + len]
-}
-
 fn body_of<'a>(bytes: &'a [u8], answer: RecordAnswer) -> &'a [u8]
-    requires { ⌜ startBy answer + lenBy answer ≤ length (now bytes) ⌝ }
-    ensures { λ r. ⌜ StretchOf (bytes .entry) (startBy answer) (lenBy answer) r ⌝ }
+    ensures { λ r. ⌜ BodyOf (bytes .entry) (startBy answer) (lenBy answer) r ⌝ }
 {
     match answer {
         RecordAnswer::Record {
@@ -66,13 +58,13 @@ fn body_of<'a>(bytes: &'a [u8], answer: RecordAnswer) -> &'a [u8]
             start,
             len,
             next: _,
-        } => stretch(bytes, start, len),
-        RecordAnswer::Refused(_) => stretch(bytes, 0, 0),
+        } => body(bytes, start, len),
+        RecordAnswer::Refused(_) => body(bytes, 0, 0),
     }
 }
 
-// Moves the place past the record that is there.
-pub fn take_record<'a>(place: Place<'a>) -> Step<'a>
+// Moves the place past the record that is there, and hands back its body.
+pub fn next_record<'a>(place: Place<'a>) -> Step<'a>
     ensures { λ r. ⌜ Stepped (place .entry) r ⌝ }
 {
     let answer = record_at(place.bytes, place.at);

@@ -14,13 +14,13 @@ use Rattle.scope.specs.Sizes.{variablesFit, numbersFit}
 use Rattle.scope.specs.Question.{Node, unused, atom, equation, atMost, nodeOf, codeOf, isUnused, isAtom}
 use Rattle.scope.specs.Refusals.{Check, check, refusal, unlessPassed, firstRefusal, Progress, stopped, ended, orStopped}
 use Rattle.scope.specs.Wire.{Reading, Ended, byteAt, numberAt, numbersAt, kindAt, lengthAt, headerThere, bodyThere, headKind, endKind, bodyLength}
-use Rattle.wire.specs.Steps.{frameChecks, frameOr, frameAnswer, headChecks, headOr, headAnswer, nodeHere, nodeFrameChecks, nodeSizeChecks, nodeOr, nodeFrame, nodeAnswer, partOf}
+use Rattle.wire.specs.Steps.{frameChecks, frameOr, frameAnswer, headChecks, headOr, headAnswer, nodeHere, nodeFrameChecks, nodeSizeChecks, nodeOr, nodeFrame, nodeAnswer}
 use Rattle.wire.specs.declared.reading.FrameAnswer.{FrameAnswer}
 use Rattle.wire.specs.declared.reading.HeadAnswer.{HeadAnswer}
 use Rattle.wire.specs.declared.reading.NodeAnswer.{NodeAnswer}
 use Rattle.theory.specs.Records.{node-of-code}
 use Rattle.wire.proofs.Codes.{code-small}
-use Rattle.wire.proofs.Stretches.{part-number, part-numbers}
+use Rattle.wire.proofs.Stretches.{partOf, part-number, part-numbers}
 use Rattle.wire.specs.Answers.{endChecks, endFrom}
 use Rattle.wire.proofs.Frames.{four, Framed, framed, none-before, some-before, none-both}
 

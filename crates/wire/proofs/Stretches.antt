@@ -1,26 +1,21 @@
 -- The numbers in a stretch of the bytes are those of the bytes.
 use mathlib.Core.Path.{_≡_, refl, ap, _∙_}
 use mathlib.Core.List.{List}
-use Prim.Native.Nat.{ℕ, zero, suc, _+_, _-_, _*_, _<_, _≤_}
+use Prim.Native.Nat.{ℕ, zero, suc, _+_, _*_, _<_, _≤_}
 use native.Mathlib.Omega.{arith}
-use borrow.Author.Tests.{le-leb}
 use lib.ListN.{length, take, drop, length-drop}
 use lib.Seq.{getD-take, getD-drop, length-take-le}
 use Rattle.scope.specs.Wire.{byteAt, numberAt, numbersAt}
-use Rattle.wire.specs.Steps.{partOf}
+
+abbrev pub partOf : List ℕ → ℕ → ℕ → List ℕ
+partOf b start len = take len (drop start b)
 
 module _ (b : List ℕ) (start len : ℕ) (fits : start + len ≤ length b) where
-  part-is : partOf b start len ≡ take len (drop start b)
-  part-is =
-      let s : start ≤ length b = omega arith in
-      let l : len ≤ length b - start = omega arith in
-      rw (le-leb _ _ s, le-leb _ _ l)
-
   pub part-length : length (partOf b start len) ≡ len
-  part-length = ap length part-is ∙ length-take-le len (drop start b) (rw length-drop (omega arith))
+  part-length = length-take-le len (drop start b) (rw length-drop (omega arith))
 
   part-byte : (i : ℕ) → i < len → byteAt (partOf b start len) i ≡ byteAt b (start + i)
-  part-byte i h = ap (λ (l : List ℕ). byteAt l i) part-is ∙ getD-take len (drop start b) i 0 h ∙ getD-drop start b i 0
+  part-byte i h = getD-take len (drop start b) i 0 h ∙ getD-drop start b i 0
 
   pub part-number : (i : ℕ) → i + 4 ≤ len → numberAt (partOf b start len) i ≡ numberAt b (start + i)
   part-number i h =

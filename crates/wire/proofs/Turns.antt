@@ -17,10 +17,10 @@ use Rattle.scope.specs.Wire as wire
 use Rattle.scope.specs.Wire.{Reading, Ended, numberAt, numbersAt, bodyLength, noted, nodeRead, endRead, dueRead, recordRead}
 use Rattle.theory.specs.Checks.{onward-stopped}
 use Rattle.wire.specs.declared.reading.NodeAnswer.{NodeAnswer}
-use Rattle.wire.specs.Steps.{partOf, nodeHere, nodeAnswer, Full, notedBody}
+use Rattle.wire.specs.Steps.{nodeHere, nodeAnswer, Full, notedBody}
 use Rattle.wire.specs.Answers.{endChecks, endFrom}
 use Rattle.wire.specs.Formula.{Known, Sound, Grown, Unread, dueOf, shapeOf, depthOf, laterOf}
-use Rattle.wire.proofs.Stretches.{part-number, part-numbers}
+use Rattle.wire.proofs.Stretches.{partOf, part-number, part-numbers}
 use Rattle.wire.proofs.Nodes.{NodeKnown, NodeTaken, node-taken, node-refused, atom-size}
 
 abbrev pub readingOf : Question → Known → ℕ → Reading

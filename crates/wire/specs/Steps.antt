@@ -1,5 +1,5 @@
--- The steps between document 01's definitions and the code: a header, a stretch of bytes, and the checks at a record by what they answer.
-use Prim.Native.Nat.{ℕ, _+_, _-_, _*_, _≤_, _<_}
+-- The steps between document 01's definitions and the code: a header, a stretch of the bytes, and the checks at a record by what they answer.
+use Prim.Native.Nat.{ℕ, _+_, _*_, _≤_, _<_}
 use mathlib.Core.Path.{_≡_}
 use mathlib.Core.Bool.{Bool, true, false, not, cond, _||_}
 use mathlib.Core.Option.{Option, none, some}
@@ -7,6 +7,8 @@ use mathlib.Core.List.{List, [], _∷_, _++_}
 use lib.ListN.{length, take, drop}
 use lib.Dec.{leb, ltb, eqb}
 use lib.IntN.{ℤ}
+use denote.Ref.{RefT, ptr, now}
+use borrow.Author.Tests.{le-leb}
 use Rattle.scope.specs.declared.Question.{Question}
 use Rattle.scope.specs.declared.Refusal.{Refusal}
 use Rattle.scope.specs.Sizes.{mostNodes, mostAtoms, mostDepth, variablesFit, numbersFit}
@@ -27,10 +29,22 @@ headerOr false b at = HeaderAnswer.Cut
 abbrev pub headerAt : List ℕ → ℕ → HeaderAnswer
 headerAt b at = headerOr (headerThere b at) b at
 
--- ---- the len bytes from start on, or none where they do not fit
+-- ---- a body
 
-abbrev pub partOf : List ℕ → ℕ → ℕ → List ℕ
-partOf b start len = cond (leb start (length b)) (cond (leb len (length b - start)) (take len (drop start b)) []) []
+-- a stretch of the caller's own bytes, uncopied: it lies in them, start bytes on, and holds len of them
+pub record StretchOf (bytes : RefT (List ℕ)) (start len : ℕ) (stretch : RefT (List ℕ)) : Type 0 where
+  pub lies : ptr stretch ≡ (ptr bytes .0, ptr bytes .1 + start)
+  pub holds : now stretch ≡ take len (drop start (now bytes))
+
+abbrev pub bodyFits : List ℕ → ℕ → ℕ → Bool
+bodyFits b start len = leb (start + len) (length b)
+
+-- the len bytes from start on; where they do not fit, none, at the first byte
+abbrev pub BodyOf : RefT (List ℕ) → ℕ → ℕ → RefT (List ℕ) → Type 0
+BodyOf bytes start len body = StretchOf bytes (cond (bodyFits (now bytes) start len) start 0) (cond (bodyFits (now bytes) start len) len 0) body
+
+pub body-there : (bytes : RefT (List ℕ)) (start len : ℕ) (body : RefT (List ℕ)) → start + len ≤ length (now bytes) → BodyOf bytes start len body → StretchOf bytes start len body
+body-there bytes start len body fits b = rw (le-leb _ _ fits) at b
 
 -- ---- a record of a known kind and length
 

@@ -5,7 +5,7 @@ ghost use lib.ListN.{length};
 ghost use Rattle.scope.specs.Refusals.{stopped};
 ghost use Rattle.scope.specs.Wire.{recordAt, readFrom, readHeld};
 ghost use Rattle.wire.specs.Answers.{partRead, formulaRead, endFrom};
-ghost use Rattle.wire.specs.Steps.{partOf};
+ghost use Rattle.wire.specs.Steps.{BodyOf};
 ghost use Rattle.wire.specs.Writes.{Writes};
 
 mod numbers;
@@ -63,18 +63,18 @@ pub fn record_at(bytes: &[u8], at: usize) -> RecordAnswer
     }
 }
 
-// The len bytes from start on, as that stretch of the caller's bytes; none where they do not fit.
+// The len bytes from start on, as that stretch of the caller's bytes; where they do not fit, none, at the first byte.
 pub fn body<'a>(bytes: &'a [u8], start: usize, len: usize) -> &'a [u8]
-    ensures { λ r. ⌜ now r ≡ partOf (now (bytes .entry)) start len ⌝ }
+    ensures { λ r. ⌜ BodyOf (bytes .entry) start len r ⌝ }
 {
     if start <= bytes.len() {
         if len <= bytes.len() - start {
             &bytes[start..start + len]
         } else {
-            &bytes[..0]
+            &bytes[0..0]
         }
     } else {
-        &bytes[..0]
+        &bytes[0..0]
     }
 }
 
@@ -120,9 +120,9 @@ fn formula_from(bytes: &[u8], at: usize, n: u8) -> ReadPart
     ensures { λ r. ⌜ r ≡ partRead (formulaRead (now (bytes .entry)) n at) ⌝ }
 {
     let count = count_of(n);
-    let mut codes = [0u8; 64];
-    let mut coefficients = [0i32; 48];
-    let mut constants = [0i32; 8];
+    let mut codes = [0u8; Question::NODES];
+    let mut coefficients = [0i32; Question::COEFFICIENTS];
+    let mut constants = [0i32; Question::ATOMS];
     let mut due = [1u8; DUE];
     let mut shape = unread();
     let mut place = at;

@@ -25,9 +25,6 @@ use crate::shape::unread;
 use scope::Question;
 use scope::Refusal;
 
-// The coefficients that a question holds.
-const CELLS: usize = Question::VARIABLES * Question::ATOMS;
-
 // The formula's nodes and atoms, and the bytes of the head and its nodes.
 pub enum FormulaAnswer {
     Formula {
@@ -148,7 +145,7 @@ pub fn formula_of(question: Question) -> FormulaAnswer
 }
 
 // The first code from a place on that is not zero, or 64.
-pub fn code_left(codes: [u8; 64], from: usize) -> usize
+pub fn code_left(codes: [u8; Question::NODES], from: usize) -> usize
     requires { ⌜ from ≤ 64 ⌝ }
     ensures { λ r. ⌜ CodeLeft codes from r ⌝ }
 {
@@ -163,11 +160,15 @@ pub fn code_left(codes: [u8; 64], from: usize) -> usize
 }
 
 // Each coefficient is one of the n of an atom, or zero.
-pub fn coefficients_clear(coefficients: [i32; 48], n: usize, atoms: usize) -> bool
+pub fn coefficients_clear(
+    coefficients: [i32; Question::COEFFICIENTS],
+    n: usize,
+    atoms: usize,
+) -> bool
     ensures { λ r. ⌜ r ≡ allFrom (coefficientClear n atoms) 0 coefficients ⌝ }
 {
     let mut cell = 0;
-    while cell < CELLS {
+    while cell < Question::COEFFICIENTS {
         if !cell_clear(coefficients[cell], cell, n, atoms) {
             return false;
         }
@@ -188,7 +189,7 @@ pub fn cell_clear(number: i32, cell: usize, n: usize, atoms: usize) -> bool
 }
 
 // Each constant is that of an atom, or zero.
-pub fn constants_clear(constants: [i32; 8], atoms: usize) -> bool
+pub fn constants_clear(constants: [i32; Question::ATOMS], atoms: usize) -> bool
     ensures { λ r. ⌜ r ≡ allFrom (constantClear atoms) 0 constants ⌝ }
 {
     let mut i = 0;

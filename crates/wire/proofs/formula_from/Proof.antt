@@ -9,11 +9,11 @@ use Rattle.scope.specs.declared.Refusal.{Refusal}
 use Rattle.scope.specs.Question.{emptyQuestion}
 use Rattle.scope.specs.Refusals.{stopped, going, onward}
 use Rattle.scope.specs.Wire as wire
-use Rattle.wire.specs.Steps.{nodeAnswer, heldQuestion, notedBody}
+use Rattle.wire.specs.Steps.{nodeAnswer, heldQuestion, notedBody, body-there}
 use Rattle.wire.specs.Answers.{partRead, formulaRead, endFrom}
 use Rattle.wire.specs.Formula.{Known, knownBy, depthOf}
 use Rattle.wire.specs.declared.reading.NodeAnswer.{NodeAnswer}
-use Rattle.wire.proofs.Stretches.{part-length}
+use Rattle.wire.proofs.Stretches.{partOf, part-length}
 use Rattle.wire.proofs.Nodes.{NodeTaken, atom-size}
 use Rattle.wire.proofs.Turns.{readingOf, grown-nodes, Left, left-start, left-end, left-refused, left-taken, left-again}
 use Rattle.wire.proofs.formula_from.Statement.{statement}
@@ -84,6 +84,10 @@ returns c =
 add-body : tie.Need-add-body Inv-loop μ-loop
 add-body c = omega (arith, node c .known)
 
+-- the body that is handed over
+held : (c : tie.After-body Inv-loop μ-loop) → now (c .body .result) ≡ partOf (now (entry (asked (c .before)) .args .bytes)) (turn (asked (c .before)) .loop .place + 4) (c .before .before .code .given .0 .1 .0)
+held c = body-there _ _ _ _ (node (c .before) .known .within) (c .body .ensures) .holds
+
 note-requires : tie.Need-note-requires Inv-loop μ-loop
 note-requires c κs =
     let t = c .before .before .before .before in
@@ -94,7 +98,7 @@ note-requires c κs =
       room = k .room;
       few = k .few;
       variables = few-variables (asked t);
-      numbers = λ a. ap length (c .before .before .before .body .ensures) ∙ part-length (now (entry (asked t) .args .bytes)) (turn (asked t) .loop .place + 4) _ (k .known .within) ∙ atom-size _ _ _ _ _ (k .known) a;
+      numbers = λ a. ap length (held (c .before .before .before)) ∙ part-length (now (entry (asked t) .args .bytes)) (turn (asked t) .loop .place + 4) _ (k .known .within) ∙ atom-size _ _ _ _ _ (k .known) a;
     }
 
 grown-requires : tie.Need-grown-requires Inv-loop μ-loop
@@ -123,7 +127,7 @@ loop-again c =
     let k = c .before .before .before .before .before .before in
     left-again (l .inv) (asked t .before .before .if1 .taken) _ _ (sym (answer (asked t)) ∙ t .before .code .given .1)
     _ _
-    (k .note .ensures ∙ ap (notedBody (heldQuestion (count (asked t)) (l .codes) (l .coefficients) (l .constants)) (t .before .code .given .0 .0) (l .shape .nodes) (l .shape .atoms)) (c .before .before .before .before .before .before .before .before .before .before .body .ensures))
+    (k .note .ensures ∙ ap (notedBody (heldQuestion (count (asked t)) (l .codes) (l .coefficients) (l .constants)) (t .before .code .given .0 .0) (l .shape .nodes) (l .shape .atoms)) (held (c .before .before .before .before .before .before .before .before .before .before)))
     (record {
       codes = k .note .kept .1 .1 .1 .1 .0 ∙ l .inv .full .codes;
       coefficients = k .note .kept .1 .1 .1 .1 .1 .0 ∙ l .inv .full .coefficients;

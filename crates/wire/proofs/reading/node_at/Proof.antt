@@ -11,9 +11,9 @@ use Rattle.scope.specs.Question.{nodeOf, isAtom}
 use Rattle.scope.specs.Sizes.{numbersFit}
 use Rattle.scope.specs.Wire.{numberAt, numbersAt}
 use mathlib.Core.List.{List}
-use Rattle.wire.specs.Steps.{partOf, nodeFrame}
+use Rattle.wire.specs.Steps.{nodeFrame, body-there}
 use Rattle.wire.specs.declared.reading.NodeAnswer.{NodeAnswer}
-use Rattle.wire.proofs.Stretches.{part-length}
+use Rattle.wire.proofs.Stretches.{partOf, part-length}
 use Rattle.wire.proofs.Nodes.{NodeKnown, known, frame-kept, node-full, node-large, node-plain, atom-size, node-atom, node-beyond}
 use borrow.Author.Needs.{needs}
 use Rattle.wire.proofs.reading.node_at.Statement.{statement}
@@ -36,6 +36,10 @@ atom c = sym (c .before .before .before .before .is-atom .ensures) ∙ not-false
 exact : (c : tie.Else3) → c .before .before .before .before .before .before .frame .given .0 .1 .0 ≡ 4 * (c .before .before .before .before .before .before .before .before .before .before .args .n + 1)
 exact c = atom-size _ _ _ _ _ (node (c .before .before .before .before .before)) (atom c)
 
+-- the numbers' bytes
+held : (c : tie.After-body) → now (c .body .result) ≡ partOf (now (c .before .before .before .before .before .before .before .before .before .before .before .args .bytes)) (c .before .before .before .before .before .before .before .before .before .before .before .args .at + 4) (c .before .before .before .before .before .before .before .frame .given .0 .1 .0)
+held c = body-there _ _ _ _ (node (c .before .before .before .before .before .before) .within) (c .body .ensures) .holds
+
 abbrev entry : tie.After-numbers-fit → tie.Start
 entry c = c .before .before .before .before .before .before .before .before .before .before .before .before
 
@@ -44,7 +48,7 @@ fit : (c : tie.After-numbers-fit) (t : Bool) → c .numbers-fit .result ≡ t
     (numberAt (partOf (now (entry c .args .bytes)) (entry c .args .at + 4) (c .before .before .before .before .before .before .before .before .frame .given .0 .1 .0)) (4 * entry c .args .n)) ≡ t
 fit c t e =
     let a = entry c .args in
-    ap (λ (l : List ℕ). numbersFit (numbersAt (a .n) l 0) (numberAt l (4 * a .n))) (sym (c .before .body .ensures))
+    ap (λ (l : List ℕ). numbersFit (numbersAt (a .n) l 0) (numberAt l (4 * a .n))) (sym (held (c .before)))
     ∙ sym (c .numbers-fit .ensures) ∙ e
 
 returns : tie.Need-returns
@@ -77,7 +81,7 @@ numbers-fit-requires : tie.Need-numbers-fit-requires
 numbers-fit-requires c κs =
     let a = c .before .before .before .before .before .before .before .before .before .before .before .args in
     let k = node (c .before .before .before .before .before .before) in
-    let l = ap length (c .body .ensures) ∙ part-length (now (a .bytes)) (a .at + 4) _ (k .within) ∙ exact (c .before) in
+    let l = ap length (held c) ∙ part-length (now (a .bytes)) (a .at + 4) _ (k .within) ∙ exact (c .before) in
     (c .before .before .before .before .before .before .before .before .before .before .before .pre, omega (arith, l))
 
 returns-5 : tie.Need-returns-5
