@@ -1,14 +1,14 @@
 #!/usr/bin/env bash
-# Writes OUT/libpelohuaki_c.a for an aarch64 Linux machine, for tests and measurements there: the kit's archive is for x86-64 alone.
+# Writes the archive of the proved calls on an aarch64 Linux machine, for `tools/run archive`: the kit's own is for x86-64 alone.
 # The LLVM code that the kit makes of the proved crate is kept on its way to the kit's clang, its target is exchanged, and the same clang
-# compiles it with the same optimisation. Nothing proves that the exchange keeps the meaning, and users do not link this archive.
+# compiles it with the same optimisation. Nothing proves that the exchange keeps the meaning; `tools/run bench` tests it.
 #
-#     rt check pelohuaki_c && tools/native_archive.sh OUT
+#     rt check pelohuaki_c && tools/native_archive.sh KIT ARCHIVE
 set -euo pipefail
-out=$(mkdir -p "${1:?the folder to write to}" && cd "$1" && pwd)
+kit=$(cd "${1:?the folder of the kit}" && pwd)
+archive=$(realpath -m "${2:?the archive to write}")
 cd "$(dirname "$0")/.."
 name=pelohuaki_c
-kit=$(cd "$(dirname "$(readlink -f "$(command -v rt)")")/.." && pwd)
 own=$kit/on/$(uname -m)
 clang=$own/toolchain/bin/clang
 work=$(mktemp -d)
@@ -27,9 +27,10 @@ WRAPPER
 chmod +x "$work/bin/clang"
 
 words=(--crate-name "$name" "crates/$name/src/lib.rt" --extern "std=$own/rlib/std.rlib")
-for dep in $(sed -n "s/^$name: *//p" crates.txt); do words+=(--extern "$dep=target/rlib/$dep.rlib"); done
+read -ra deps < <(sed -n "s/^$name: *//p" crates.txt)
+for dep in "${deps[@]}"; do words+=(--extern "$dep=target/rlib/$dep.rlib"); done
 "$own/bin/rattle" build "${words[@]}" -L dependency=target/rlib -L "dependency=$own/rlib" --antt-project "$kit/logic/antt-project.json" \
-    --logic-built "$own/logic-built" --toolchain "$work" --crate-type staticlib -o "$work/x86_64.a" 2>&1 | tail -1
+    --logic-built "$own/logic-built" --toolchain "$work" --crate-type staticlib -o "$work/x86_64.a"
 
 "$clang" --target=x86_64-unknown-linux-gnu -S -emit-llvm -Xclang -disable-llvm-passes -x ir "$work/module.bc" -o "$work/module.ll"
 layout='e-m:e-p270:32:32-p271:32:32-p272:64:64-i8:8:32-i16:16:32-i64:64-i128:128-n32:64-S128-Fn32'
@@ -37,6 +38,5 @@ sed -i -e "s/^target datalayout = .*/target datalayout = \"$layout\"/" \
     -e 's/^target triple = .*/target triple = "aarch64-unknown-linux-gnu"/' \
     -e 's/"target-cpu"="[^"]*"/"target-cpu"="generic"/g' "$work/module.ll"
 "$clang" --target=aarch64-unknown-linux-gnu -ffunction-sections -fdata-sections -fPIC -O3 -c -x ir "$work/module.ll" -o "$work/$name.o"
-rm -f "$out/lib$name.a"
-"$work/bin/llvm-ar" rcs "$out/lib$name.a" "$work/$name.o"
-echo "$out/lib$name.a"
+"$work/bin/llvm-ar" rcs "$work/$name.a" "$work/$name.o"
+mv "$work/$name.a" "$archive"
