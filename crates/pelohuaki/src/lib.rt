@@ -1,4 +1,4 @@
-// The public calls and their types, under one roof. What their contracts promise together is in specs/.
+// The public calls and their types, under one roof. What their contracts promise together is in crate `promises`.
 pub use build::build;
 pub use decide::decide;
 pub use judge::judge;
@@ -6,7 +6,7 @@ pub use place::Place;
 pub use place::Step;
 pub use place::next_record;
 pub use place::open;
-pub use place::take_record;
+pub use place::peek_record;
 pub use scope::BuildAnswer;
 pub use scope::DecideAnswer;
 pub use scope::Held;

@@ -1,17 +1,17 @@
 -- Demand 1, sentence by sentence, of any outcome that the contracts allow: what is refused, and by which number. What is left is in Left.
 --
 -- "Any question, table, word or value lent to it gets an answer, and nothing is assumed to have been looked at before." No call has a
--- `requires`, and each is proved to end. What follows has no hypothesis on what is lent, except where it says that bytes are accepted.
+-- `requires` (Tied), and each is proved to end. `Octets` and `Sized` are what the code's types say of every value: bytes below 256, arrays of their lengths.
 use mathlib.Core.Path.{_≡_, refl, sym, ap, _∙_, subst}
 use mathlib.Core.Logic.{_↔_, _⊎_, inl, inr, ⊎-elim, _≢_, Iff·trans}
 use mathlib.Core.Bool.{Bool, true, false, _&&_}
 use mathlib.Core.Option.{Option, none, some}
 use mathlib.Core.List.{List, [], _∷_, _++_}
-use Prim.Native.Nat.{ℕ, _-_, _≤_, _<_}
+use Prim.Native.Nat.{ℕ, _+_, _-_, _≤_, _<_}
 use native.Mathlib.Omega.{arith}
 use lib.ListN.{length}
-use lib.Dec.{leb, leb→le, nleb→lt, not-T}
-use lib.Ieee.Bits.{is-false}
+use lib.Dec.{leb, leb→le, le→leb, nleb→lt, not-T}
+use lib.Ieee.Bits.{is-true, is-false}
 use lib.IntN.{ℤ}
 use Rattle.scope.specs.declared.Question.{Question}
 use Rattle.scope.specs.declared.Refusal.{Refusal}
@@ -23,12 +23,13 @@ use Rattle.scope.specs.declared.TruthAnswer.{TruthAnswer}
 use Rattle.scope.specs.declared.DecideAnswer.{DecideAnswer}
 use Rattle.scope.specs.declared.BuildAnswer.{BuildAnswer}
 use Rattle.scope.specs.declared.SpellAnswer.{SpellAnswer}
+use Rattle.scope.specs.Whole.{atFront}
 use Rattle.scope.specs.Sizes.{mostSpelled, variablesFit}
 use Rattle.scope.specs.Refusals.{Check, check, refusal, firstRefusal, Progress, stopped, going, ended}
-use Rattle.scope.specs.Wire.{headerThere, bodyThere, recordOr, recordAt, Reading, Ended, readFrom, readHeld}
+use Rattle.scope.specs.Wire.{kindAt, lengthAt, headerThere, bodyThere, recordOr, recordAt, Reading, Ended, readFrom, readHeld}
 use Rattle.scope.specs.Writing.{Walk, written, Wrote, fitted, wroteOf, wrote}
 use Rattle.scope.specs.Words.{Word, lettersFit, value, valueOr, spelt}
-use Rattle.scope.specs.States.{satisfied}
+use Rattle.scope.specs.Tree.{questionBytes, trueFor, IsQuestion, IsHeld}
 use Rattle.scope.specs.Running.{tableFits, saysYes, truthOf, truthOr, ran}
 use Rattle.scope.specs.Judging.{judged}
 use Rattle.scope.specs.Deciding.{Decided, decided}
@@ -40,10 +41,15 @@ use Rattle.theory.specs.Answers.{refused-iff}
 use Rattle.theory.specs.WritingStopped.{RefusedAt, written-stopped-iff, never-half-written}
 use Rattle.theory.specs.Decided as deciding
 use Rattle.theory.specs.Built as building
-use Rattle.theory.specs.Agreement.{Taken, judged-accepted, judged-truth, judged-refused}
+use Rattle.theory.specs.Octets.{Octets}
+use Rattle.theory.specs.Held.{Sized}
+use Rattle.theory.specs.TreeParsed.{question-read, accepted-iff-question}
+use Rattle.theory.specs.TreeWritten.{written-question, held-written}
+use Rattle.theory.specs.Agreement.{Taken}
+use Rattle.theory.specs.Questions.{heldIn, not-both, Read, a-question, refused-by, either-way, judged-unread, judged-as, judged-others}
 use Rattle.wire.specs.declared.ReadPart.{ReadPart}
 use Rattle.wire.specs.Answers.{partRead}
-use Rattle.pelohuaki.specs.Calls.{RecordOutcome, ReadOutcome, PartOutcome, JudgeOutcome, RunOutcome, SpellOutcome, WriteOutcome, DecideOutcome, BuildOutcome}
+use Rattle.promises.specs.Calls.{RecordOutcome, ReadOutcome, PartOutcome, JudgeOutcome, RunOutcome, SpellOutcome, WriteOutcome, DecideOutcome, BuildOutcome}
 
 -- ---- bytes that break a rule
 
@@ -52,21 +58,14 @@ use Rattle.pelohuaki.specs.Calls.{RecordOutcome, ReadOutcome, PartOutcom
 abbrev pub Breaks : List ℕ → Refusal → Type 0
 Breaks bytes ρ = StoppedAt bytes 0 ρ ⊎ LeftBytes bytes ρ
 
--- the bytes are read as a question
-abbrev pub AcceptedAs : List ℕ → Question → Type 0
-AcceptedAs bytes q = readHeld bytes ≡ record { answer = ReadAnswer.Accepted; question = q }
-
--- every question's bytes are one or the other
-pub data Read (bytes : List ℕ) : Type 0 where
-  accepted-as : (q : Question) → AcceptedAs bytes q → Read bytes
-  refused-by : (ρ : Refusal) → readHeld bytes .answer ≡ ReadAnswer.Refused ρ → Read bytes
-
-pub either-way : (bytes : List ℕ) → Read bytes
-either-way bytes = go (readHeld bytes .answer) refl
+-- reading accepts the bytes, as a held question, or refuses them
+by-answer : (bytes : List ℕ) {X : Type 0} → ((q : Question) → readHeld bytes ≡ record { answer = ReadAnswer.Accepted; question = q } → X)
+    → ((ρ : Refusal) → readHeld bytes .answer ≡ ReadAnswer.Refused ρ → X) → X
+by-answer bytes {X} accepted refused = go (readHeld bytes .answer) refl
   where
-    go : (a : ReadAnswer) → readHeld bytes .answer ≡ a → Read bytes
-    go ReadAnswer.Accepted e = accepted-as (readHeld bytes .question) (λ i. record { answer = e i; question = readHeld bytes .question })
-    go (ReadAnswer.Refused ρ) e = refused-by ρ e
+    go : (a : ReadAnswer) → readHeld bytes .answer ≡ a → X
+    go ReadAnswer.Accepted e = accepted (readHeld bytes .question) (λ i. record { answer = e i; question = readHeld bytes .question })
+    go (ReadAnswer.Refused ρ) e = refused ρ e
 
 -- ---- "What breaks the rules is refused by the number in document 01, and a question that breaks none is accepted."
 
@@ -74,29 +73,31 @@ module _ (bytes : List ℕ) where
   pub read-refused : {r : Held} → ReadOutcome bytes r → (ρ : Refusal) → (r .answer ≡ ReadAnswer.Refused ρ) ↔ Breaks bytes ρ
   read-refused out ρ = rw out (refused-iff bytes ρ)
 
-  pub read-accepted : {r : Held} → ReadOutcome bytes r → (r .answer ≡ ReadAnswer.Accepted) ↔ ((ρ : Refusal) → ¬ Breaks bytes ρ)
-  read-accepted out = rw out (unbroken, accepted)
-    where
-      unbroken : readHeld bytes .answer ≡ ReadAnswer.Accepted → (ρ : Refusal) → ¬ Breaks bytes ρ
-      unbroken e ρ b = let x = refused-iff bytes ρ .1 b in let z : _≡_ {A = ℕ} 0 1 = cc in omega arith
+  -- a question's bytes are read as its held value
+  pub read-question : {r : Held} → ReadOutcome bytes r → (q : IsQuestion bytes) → r ≡ record { answer = ReadAnswer.Accepted; question = heldIn q }
+  read-question out q = out ∙ question-read bytes q
 
-      accepted : ((ρ : Refusal) → ¬ Breaks bytes ρ) → readHeld bytes .answer ≡ ReadAnswer.Accepted
-      accepted n = go (either-way bytes)
-        where
-          go : Read bytes → readHeld bytes .answer ≡ ReadAnswer.Accepted
-          go (accepted-as q e) = ap (λ (h : Held). h .answer) e
-          go (refused-by ρ e) = absurd (n ρ (refused-iff bytes ρ .0 e))
+  pub read-accepted : Octets bytes → {r : Held} → ReadOutcome bytes r → (r .answer ≡ ReadAnswer.Accepted) ↔ IsQuestion bytes
+  read-accepted octets out = rw out (accepted-iff-question bytes octets)
 
-  -- so the bytes that later theorems take as accepted are those that break no rule
-  pub accepted-exactly : ((q : Question) × AcceptedAs bytes q) ↔ ((ρ : Refusal) → ¬ Breaks bytes ρ)
-  accepted-exactly = (λ (q, e). read-accepted refl .0 (ap (λ (h : Held). h .answer) e), back)
+  -- so bytes break a rule exactly if they are no question's
+  pub question-unbroken : Octets bytes → IsQuestion bytes ↔ ((ρ : Refusal) → ¬ Breaks bytes ρ)
+  question-unbroken octets = (λ q ρ b. not-both bytes q ρ (refused-iff bytes ρ .1 b), λ n. go n (either-way bytes octets))
     where
-      back : ((ρ : Refusal) → ¬ Breaks bytes ρ) → (q : Question) × AcceptedAs bytes q
-      back n = go (either-way bytes)
-        where
-          go : Read bytes → (q : Question) × AcceptedAs bytes q
-          go (accepted-as q e) = (q, e)
-          go (refused-by ρ e) = absurd (n ρ (refused-iff bytes ρ .0 e))
+      go : ((ρ : Refusal) → ¬ Breaks bytes ρ) → Read bytes → IsQuestion bytes
+      go n (a-question q) = q
+      go n (refused-by ρ e) = absurd (n ρ (refused-iff bytes ρ .0 e))
+
+  pub other-broken : Octets bytes → (¬ IsQuestion bytes) ↔ ((ρ : Refusal) × Breaks bytes ρ)
+  other-broken octets = (λ n. go n (either-way bytes octets), λ (ρ, b) q. not-both bytes q ρ (refused-iff bytes ρ .1 b))
+    where
+      go : ¬ IsQuestion bytes → Read bytes → (ρ : Refusal) × Breaks bytes ρ
+      go n (a-question q) = absurd (n q)
+      go n (refused-by ρ e) = (ρ, refused-iff bytes ρ .0 e)
+
+  -- by one number, at one place
+  pub breaks-once : (ρ σ : Refusal) → Breaks bytes ρ → Breaks bytes σ → ρ ≡ σ
+  breaks-once ρ σ b c = let x = refused-iff bytes ρ .1 b in let y = refused-iff bytes σ .1 c in cc
 
 -- a bare step refuses only by 1, at the record
 abbrev pub recordChecks : List ℕ → ℕ → List Check
@@ -110,6 +111,12 @@ module _ (bytes : List ℕ) (at : ℕ) where
       record-or : (o : Option Refusal) → (recordOr o bytes at ≡ RecordAnswer.Refused ρ) ↔ (o ≡ some ρ)
       record-or none = (λ e. let z : _≡_ {A = ℕ} 0 1 = cc in absurd (omega arith), λ e. let z : _≡_ {A = ℕ} 0 1 = cc in absurd (omega arith))
       record-or (some σ) = (λ e. cc, λ e. cc)
+
+  -- else the record, its body all there
+  pub record-there : {r : RecordAnswer} → RecordOutcome bytes at r → Passed (recordChecks bytes at)
+      → r ≡ RecordAnswer.Record (kindAt bytes at) (at + 4) (lengthAt bytes at) (at + 4 + lengthAt bytes at)
+  unfolding recordAt
+  record-there out p = rw (out, none-iff-passed (recordChecks bytes at) .1 p)
 
   pub record-cut : {r : RecordAnswer} → RecordOutcome bytes at r → (ρ : Refusal) → r ≡ RecordAnswer.Refused ρ → ρ ≡ refusal 1 at
   unfolding recordAt firstRefusal
@@ -170,11 +177,10 @@ breaks-number bytes ρ = ⊎-elim stops (λ l. rw (l .told) six)
 -- deciding
 module _ (bytes : List ℕ) (keys : List ℤ) (path word : List ℕ) where
   pub decided-refused : (ρ : Refusal) → (decided bytes keys path word .answer ≡ DecideAnswer.Refused ρ) ↔ (readHeld bytes .answer ≡ ReadAnswer.Refused ρ)
-  decided-refused ρ = (said (either-way bytes), back)
+  decided-refused ρ = (by-answer bytes (λ q e x. absurd (deciding.says-not-refused bytes keys path word q e ρ x)) said, back)
     where
-      said : Read bytes → decided bytes keys path word .answer ≡ DecideAnswer.Refused ρ → readHeld bytes .answer ≡ ReadAnswer.Refused ρ
-      said (accepted-as q e) x = absurd (deciding.says-not-refused bytes keys path word q e ρ x)
-      said (refused-by σ e) x =
+      said : (σ : Refusal) → readHeld bytes .answer ≡ ReadAnswer.Refused σ → decided bytes keys path word .answer ≡ DecideAnswer.Refused ρ → readHeld bytes .answer ≡ ReadAnswer.Refused ρ
+      said σ e x =
           let y = ap (λ (d : Decided). d .answer) (deciding.refused-unchanged bytes keys path word σ e) in
           let s : σ ≡ ρ = cc in
           e ∙ ap ReadAnswer.Refused s
@@ -185,14 +191,16 @@ module _ (bytes : List ℕ) (keys : List ℤ) (path word : List ℕ) where
   pub decide-refused : {o : Decided} → DecideOutcome bytes keys path word o → (ρ : Refusal) → (o .answer ≡ DecideAnswer.Refused ρ) ↔ Breaks bytes ρ
   decide-refused out ρ = rw (out .answer) (Iff·trans (decided-refused ρ) (refused-iff bytes ρ))
 
+  pub question-not-refused : IsQuestion bytes → {o : Decided} → DecideOutcome bytes keys path word o → (ρ : Refusal) → o .answer ≢ DecideAnswer.Refused ρ
+  question-not-refused q out ρ e = not-both bytes q ρ (decided-refused ρ .0 (sym (out .answer) ∙ e))
+
 -- building
 module _ (bytes : List ℕ) (keys : List ℤ) (table : List ℕ) where
   pub built-refused : (ρ : Refusal) → (built bytes keys table .answer ≡ BuildAnswer.Refused ρ) ↔ (readHeld bytes .answer ≡ ReadAnswer.Refused ρ)
-  built-refused ρ = (said (either-way bytes), back)
+  built-refused ρ = (by-answer bytes (λ q e x. absurd (building.says-not-refused bytes keys table q e ρ x)) said, back)
     where
-      said : Read bytes → built bytes keys table .answer ≡ BuildAnswer.Refused ρ → readHeld bytes .answer ≡ ReadAnswer.Refused ρ
-      said (accepted-as q e) x = absurd (building.says-not-refused bytes keys table q e ρ x)
-      said (refused-by σ e) x =
+      said : (σ : Refusal) → readHeld bytes .answer ≡ ReadAnswer.Refused σ → built bytes keys table .answer ≡ BuildAnswer.Refused ρ → readHeld bytes .answer ≡ ReadAnswer.Refused ρ
+      said σ e x =
           let y = ap (λ (b : Built). b .answer) (building.refused-unchanged bytes keys table σ e) in
           let s : σ ≡ ρ = cc in
           e ∙ ap ReadAnswer.Refused s
@@ -205,37 +213,29 @@ module _ (bytes : List ℕ) (keys : List ℤ) (table : List ℕ) where
 
 -- judging: the question first; then 9 for other than n values or a value above the limit
 pub record OtherValues (bytes values : List ℕ) (ρ : Refusal) : Type 0 where
-  pub question : Question
-  pub accepted : AcceptedAs bytes question
-  pub others : ¬ Taken question values
+  pub question : IsQuestion bytes
+  pub others : ¬ Taken (question .n) values
   pub told : ρ ≡ refusal 9 0
 
 pub truth-not-refused : (b : Bool) (ρ : Refusal) → truthOf b ≢ TruthAnswer.Refused ρ
 truth-not-refused true ρ e = let z : _≡_ {A = ℕ} 0 1 = cc in omega arith
 truth-not-refused false ρ e = let z : _≡_ {A = ℕ} 0 1 = cc in omega arith
 
-module _ (bytes values : List ℕ) where
-  judged-unread : (ρ : Refusal) → readHeld bytes .answer ≡ ReadAnswer.Refused ρ → judged bytes values ≡ TruthAnswer.Refused ρ
-  unfolding judged
-  judged-unread ρ e = rw e
-
-  pub judge-refused : {t : TruthAnswer} → JudgeOutcome bytes values t → (ρ : Refusal) → (t ≡ TruthAnswer.Refused ρ) ↔ (Breaks bytes ρ ⊎ OtherValues bytes values ρ)
-  judge-refused out ρ = rw out (said (either-way bytes), ⊎-elim (λ b. judged-unread ρ (refused-iff bytes ρ .1 b)) other)
-    where
-      said : Read bytes → judged bytes values ≡ TruthAnswer.Refused ρ → Breaks bytes ρ ⊎ OtherValues bytes values ρ
-      said (refused-by σ e) x =
-          let y = judged-unread σ e in
-          let s : σ ≡ ρ = cc in
-          inl (refused-iff bytes ρ .0 (e ∙ ap ReadAnswer.Refused s))
-      said (accepted-as q e) x =
-          let y = judged-accepted bytes values q e in
-          let n : ¬ Taken q values = λ t. truth-not-refused (satisfied q values) ρ (sym (judged-truth q values t) ∙ sym y ∙ x) in
-          let z = judged-refused q values n in
-          let s : ρ ≡ refusal 9 0 = cc in
-          inr (record { question = q; accepted = e; others = n; told = s })
-
-      other : OtherValues bytes values ρ → judged bytes values ≡ TruthAnswer.Refused ρ
-      other v = judged-accepted bytes values (v .question) (v .accepted) ∙ judged-refused (v .question) values (v .others) ∙ ap TruthAnswer.Refused (sym (v .told))
+pub judge-refused : (bytes values : List ℕ) → Octets bytes → {t : TruthAnswer} → JudgeOutcome bytes values t
+    → (ρ : Refusal) → (t ≡ TruthAnswer.Refused ρ) ↔ (Breaks bytes ρ ⊎ OtherValues bytes values ρ)
+judge-refused bytes values octets out ρ =
+    rw out (said (either-way bytes octets), ⊎-elim (λ b. judged-unread bytes values ρ (refused-iff bytes ρ .1 b)) (λ v. judged-others bytes values (v .question) (v .others) ∙ ap TruthAnswer.Refused (sym (v .told))))
+  where
+    said : Read bytes → judged bytes values ≡ TruthAnswer.Refused ρ → Breaks bytes ρ ⊎ OtherValues bytes values ρ
+    said (refused-by σ e) x =
+        let y = judged-unread bytes values σ e in
+        let s : σ ≡ ρ = cc in
+        inl (refused-iff bytes ρ .0 (e ∙ ap ReadAnswer.Refused s))
+    said (a-question q) x =
+        let n : ¬ Taken (q .n) values = λ t. truth-not-refused (trueFor (q .tree) values) ρ (sym (judged-as bytes values q t) ∙ x) in
+        let z = judged-others bytes values q n in
+        let s : ρ ≡ refusal 9 0 = cc in
+        inr (record { question = q; others = n; told = s })
 
 -- running: 4 for n, 11 for the table, 10 for a letter, in this order
 abbrev pub runChecks : ℕ → List ℕ → Word → List Check
@@ -280,7 +280,28 @@ pub record TooLong (q : Question) (buffer : List ℕ) (ρ : Refusal) : Type 0 wh
   pub long : length buffer < length (walk .bytes)
   pub told : ρ ≡ refusal 8 0
 
+-- it is a question's held value, and its bytes, so many, have room
+pub record WrittenFor (q : Question) (buffer : List ℕ) (count : ℕ) : Type 0 where
+  pub held : IsHeld q
+  pub count-is : count ≡ length (questionBytes (held .n) (held .tree))
+  pub room : count ≤ length buffer
+
+-- so written, the bytes stand at the front of the buffer
+pub wrote-question : (q : Question) (buffer : List ℕ) (h : IsHeld q) → length (questionBytes (h .n) (h .tree)) ≤ length buffer
+    → wrote q buffer ≡ record { answer = WriteAnswer.Written (length (questionBytes (h .n) (h .tree))); buffer = atFront (questionBytes (h .n) (h .tree)) buffer }
+unfolding wrote
+wrote-question q buffer h room =
+    let w = held-written (h .n) (h .tree) (h .within) in
+    let bytes : List ℕ = questionBytes (h .n) (h .tree) in
+    ap (λ (p : Progress Walk Walk). wroteOf p buffer) (ap written (h .held-is) ∙ w .1)
+    ∙ ap (λ (l : List ℕ). fitted (leb (length l) (length buffer)) l buffer) (w .2)
+    ∙ ap (λ (b : Bool). fitted b bytes buffer) (is-true (leb (length bytes) (length buffer)) (le→leb (length bytes) (length buffer) room))
+
 module _ (q : Question) (buffer : List ℕ) where
+  wrote-as : (p : Progress Walk Walk) → written q ≡ p → wrote q buffer .answer ≡ wroteOf p buffer .answer
+  unfolding wrote
+  wrote-as p x = ap (λ (p : Progress Walk Walk). wroteOf p buffer .answer) x
+
   wrote-refused-iff : (ρ : Refusal) → (wrote q buffer .answer ≡ WriteAnswer.Refused ρ) ↔ (RefusedAt q ρ ⊎ TooLong q buffer ρ)
   unfolding wrote
   wrote-refused-iff ρ = (said (written q) refl, ⊎-elim (λ s. ap (λ (p : Progress Walk Walk). wroteOf p buffer .answer) (written-stopped-iff q ρ .1 s)) long)
@@ -304,10 +325,24 @@ module _ (q : Question) (buffer : List ℕ) where
   pub write-refused : {o : Wrote} → WriteOutcome q buffer o → (ρ : Refusal) → (o .answer ≡ WriteAnswer.Refused ρ) ↔ (RefusedAt q ρ ⊎ TooLong q buffer ρ)
   write-refused out ρ = rw (out .answer) (wrote-refused-iff ρ)
 
-  -- what breaks none is written
-  pub write-written : {o : Wrote} → WriteOutcome q buffer o → ((ρ : Refusal) → ¬ (RefusedAt q ρ ⊎ TooLong q buffer ρ)) → (count : ℕ) × (o .answer ≡ WriteAnswer.Written count)
-  write-written {o} out n = go (o .answer) refl
+  -- a held value is written exactly if it is a question's and its bytes have room; they then stand at the front of the buffer
+  pub write-written : Sized q → {o : Wrote} → WriteOutcome q buffer o → (count : ℕ) → (o .answer ≡ WriteAnswer.Written count) ↔ WrittenFor q buffer count
+  write-written sized out count = rw (out .answer) (said (written q) refl, back)
     where
-      go : (a : WriteAnswer) → o .answer ≡ a → (count : ℕ) × (o .answer ≡ WriteAnswer.Written count)
-      go (WriteAnswer.Written count) e = (count, e)
-      go (WriteAnswer.Refused ρ) e = absurd (n ρ (write-refused out ρ .0 e))
+      fit : (w : Walk) → written q ≡ ended w → (b : Bool) → leb (length (w .bytes)) (length buffer) ≡ b → fitted b (w .bytes) buffer .answer ≡ WriteAnswer.Written count → WrittenFor q buffer count
+      fit w x true d e =
+          let a = written-question q w sized x in
+          let n : length (w .bytes) ≡ count = cc in
+          record { held = a .held; count-is = sym n ∙ ap length (a .bytes-are); room = omega (arith, n, leb→le (length (w .bytes)) (length buffer) (rw d tt)) }
+      fit w x false d e = let z : _≡_ {A = ℕ} 0 1 = cc in absurd (omega arith)
+
+      said : (p : Progress Walk Walk) → written q ≡ p → wrote q buffer .answer ≡ WriteAnswer.Written count → WrittenFor q buffer count
+      said (stopped σ) x e = let y = wrote-as (stopped σ) x in let z : _≡_ {A = ℕ} 0 1 = cc in absurd (omega arith)
+      said (going w) x e = absurd (never-half-written q w x)
+      said (ended w) x e = fit w x (leb (length (w .bytes)) (length buffer)) refl (sym (wrote-as (ended w) x) ∙ e)
+
+      back : WrittenFor q buffer count → wrote q buffer .answer ≡ WriteAnswer.Written count
+      back f = ap (λ (o : Wrote). o .answer) (wrote-question q buffer (f .held) (omega (arith, f .room, f .count-is))) ∙ ap WriteAnswer.Written (sym (f .count-is))
+
+  pub write-bytes : {o : Wrote} → WriteOutcome q buffer o → (h : IsHeld q) → length (questionBytes (h .n) (h .tree)) ≤ length buffer → o .buffer ≡ atFront (questionBytes (h .n) (h .tree)) buffer
+  write-bytes out h room = out .buffer ∙ ap (λ (o : Wrote). o .buffer) (wrote-question q buffer h room)

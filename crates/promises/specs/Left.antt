@@ -1,5 +1,6 @@
 -- Demand 1, what is left after a refusal, of any outcome that the contracts allow.
 use mathlib.Core.Path.{_≡_, sym, _∙_}
+use mathlib.Core.Logic.{_≢_}
 use mathlib.Core.List.{List}
 use Prim.Native.Nat.{ℕ, _*_, _≤_}
 use native.Mathlib.Omega.{arith}
@@ -12,17 +13,21 @@ use Rattle.scope.specs.declared.DecideAnswer.{DecideAnswer}
 use Rattle.scope.specs.declared.BuildAnswer.{BuildAnswer}
 use Rattle.scope.specs.Question.{atomCount}
 use Rattle.scope.specs.Writing.{Wrote}
-use Rattle.scope.specs.Deciding.{decideRoom, Decided}
-use Rattle.scope.specs.Building.{tableWidth, buildRoom, Built}
+use Rattle.scope.specs.Tree.{trueFor, IsQuestion}
+use Rattle.scope.specs.Deciding.{Decided}
+use Rattle.scope.specs.Building.{tableWidth, Built}
+use Rattle.theory.specs.TreeParsed.{question-read}
 use Rattle.theory.specs.Decided as deciding
+use Rattle.theory.specs.Decided.{RowFound}
 use Rattle.theory.specs.Built as building
 use Rattle.theory.specs.Building.{tableOf}
 use Rattle.theory.specs.Areas.{statesTold, builtTold, Filled, keyCell, pathCell, decided-keys, decided-path, built-keys}
 use Rattle.theory.specs.Lengths.{decided-keys-length, decided-path-length, decided-word-length, built-keys-length, built-table-length, wrote-length}
 use Rattle.theory.specs.Buffers.{wrote-refused}
-use Rattle.pelohuaki.specs.Calls.{WriteOutcome, DecideOutcome, BuildOutcome}
-use Rattle.pelohuaki.specs.Once.{write-is, decide-is, build-is}
-use Rattle.pelohuaki.specs.Demand1.{AcceptedAs, decided-refused, built-refused}
+use Rattle.theory.specs.Questions.{heldIn, roomFor, short-as, no-room-as, rowsFor, unbuilt-as}
+use Rattle.promises.specs.Calls.{WriteOutcome, DecideOutcome, BuildOutcome}
+use Rattle.promises.specs.Once.{write-is, decide-is, build-is}
+use Rattle.promises.specs.Demand1.{decided-refused, built-refused}
 
 -- ---- "A refused question changes no lent cell"
 
@@ -47,48 +52,59 @@ pub record RowsFilled (q : Question) (r rows : ℕ) (keys keys₁ : List ℤ) (p
   pub keys-after : Filled rows (atomCount q) (keyCell q r) keys keys₁
   pub path-after : Filled rows 2 (pathCell q r) path path₁
 
-module _ (bytes : List ℕ) (keys : List ℤ) (path word : List ℕ) (q : Question) (accepted : AcceptedAs bytes q) {o : Decided} (out : DecideOutcome bytes keys path word o) where
+module _ (bytes : List ℕ) (keys : List ℤ) (path word : List ℕ) (q : IsQuestion bytes) {o : Decided} (out : DecideOutcome bytes keys path word o) where
   -- rows of every state counted are filled, whatever the answer
-  pub decide-rows : RowsFilled q (decideRoom q keys path) (statesTold (o .answer)) keys (o .keys) path (o .path)
-  decide-rows = rw (decide-is bytes keys path word out)
-      (record { keys-after = decided-keys bytes keys path word q accepted; path-after = decided-path bytes keys path word q accepted })
+  pub decide-rows : RowsFilled (heldIn q) (roomFor q keys path) (statesTold (o .answer)) keys (o .keys) path (o .path)
+  decide-rows = rw (decide-is bytes keys path word out) (record {
+    keys-after = decided-keys bytes keys path word (heldIn q) (question-read bytes q);
+    path-after = decided-path bytes keys path word (heldIn q) (question-read bytes q);
+  })
+
+  -- found alone writes a word
+  word-as-it-was : ((s k : ℕ) → o .answer ≢ DecideAnswer.Found s k) → o .word ≡ word
+  word-as-it-was n = out .word ∙ deciding.word-kept bytes keys path word (heldIn q) (question-read bytes q) (λ s k y. n s k (out .answer ∙ y))
 
   -- 7: R as the states, rows 0 to R - 1 filled, the word unchanged
   pub decide-no-room-left : (states : ℕ) → o .answer ≡ DecideAnswer.NoRoom states
-      → (states ≡ decideRoom q keys path) × RowsFilled q (decideRoom q keys path) states keys (o .keys) path (o .path) × (o .word ≡ word)
-  decide-no-room-left states e =
-      let x = sym (out .answer) ∙ e in (
-        deciding.says-no-room bytes keys path word q accepted states .0 x .states-are,
-        rw e at decide-rows,
-        out .word ∙ deciding.word-kept bytes keys path word q accepted (λ s k y. let z : _≡_ {A = ℕ} 0 1 = cc in omega arith),
-      )
+      → (states ≡ roomFor q keys path) × RowsFilled (heldIn q) (roomFor q keys path) states keys (o .keys) path (o .path) × (o .word ≡ word)
+  decide-no-room-left states e = (
+    no-room-as bytes keys path word q states .0 (sym (out .answer) ∙ e) .states-are,
+    rw e at decide-rows,
+    word-as-it-was (λ s k y. let z : _≡_ {A = ℕ} 0 1 = cc in omega arith),
+  )
 
   -- 8: states w + 1 and rows as for found, the word unchanged
   pub decide-short-left : (states letters : ℕ) → o .answer ≡ DecideAnswer.Short states letters
-      → deciding.RowFound q (decideRoom q keys path) states letters × RowsFilled q (decideRoom q keys path) states keys (o .keys) path (o .path) × (o .word ≡ word)
-  decide-short-left states letters e =
-      let x = sym (out .answer) ∙ e in (
-        deciding.says-short bytes keys path word q accepted states letters .0 x .0,
-        rw e at decide-rows,
-        out .word ∙ deciding.word-kept bytes keys path word q accepted (λ s k y. let z : _≡_ {A = ℕ} 0 1 = cc in omega arith),
-      )
+      → RowFound (heldIn q) (trueFor (q .tree)) (roomFor q keys path) states letters × RowsFilled (heldIn q) (roomFor q keys path) states keys (o .keys) path (o .path) × (o .word ≡ word)
+  decide-short-left states letters e = (
+    short-as bytes keys path word q states letters .0 (sym (out .answer) ∙ e) .0,
+    rw e at decide-rows,
+    word-as-it-was (λ s k y. let z : _≡_ {A = ℕ} 0 1 = cc in omega arith),
+  )
 
-module _ (bytes : List ℕ) (keys : List ℤ) (table : List ℕ) (q : Question) (accepted : AcceptedAs bytes q) {o : Built} (out : BuildOutcome bytes keys table o) where
-  pub build-rows : Filled (builtTold (o .answer)) (atomCount q) (keyCell q (buildRoom q keys table)) keys (o .keys)
-  build-rows = rw (build-is bytes keys table out) (built-keys bytes keys table q accepted)
+  -- and never leaves the word too
+  pub decide-never-left : (states : ℕ) → o .answer ≡ DecideAnswer.Never states → RowsFilled (heldIn q) (roomFor q keys path) states keys (o .keys) path (o .path) × (o .word ≡ word)
+  decide-never-left states e = (rw e at decide-rows, word-as-it-was (λ s k y. let z : _≡_ {A = ℕ} 0 1 = cc in omega arith))
+
+module _ (bytes : List ℕ) (keys : List ℤ) (table : List ℕ) (q : IsQuestion bytes) {o : Built} (out : BuildOutcome bytes keys table o) where
+  pub build-rows : Filled (builtTold (o .answer)) (atomCount (heldIn q)) (keyCell (heldIn q) (rowsFor q keys table)) keys (o .keys)
+  build-rows = rw (build-is bytes keys table out) (built-keys bytes keys table (heldIn q) (question-read bytes q))
 
   -- 7: R as the states, key rows 0 to R - 1 filled, the table unchanged
   pub build-no-room-left : (states : ℕ) → o .answer ≡ BuildAnswer.NoRoom states
-      → (states ≡ buildRoom q keys table) × Filled states (atomCount q) (keyCell q (buildRoom q keys table)) keys (o .keys) × (o .table ≡ table)
+      → (states ≡ rowsFor q keys table) × Filled states (atomCount (heldIn q)) (keyCell (heldIn q) (rowsFor q keys table)) keys (o .keys) × (o .table ≡ table)
   build-no-room-left states e =
-      let x = sym (out .answer) ∙ e in
-      (building.says-no-room bytes keys table q accepted states .0 x .0, rw e at build-rows, out .table ∙ building.table-kept bytes keys table q accepted states x)
+      let x = sym (out .answer) ∙ e in (
+        unbuilt-as bytes keys table q states .0 x .0,
+        rw e at build-rows,
+        out .table ∙ building.table-kept bytes keys table (heldIn q) (question-read bytes q) states x,
+      )
 
   pub build-built-left : (states : ℕ) → o .answer ≡ BuildAnswer.Built states
-      → (take (states * tableWidth (q .n)) (o .table) ≡ tableOf q (buildRoom q keys table))
+      → (take (states * tableWidth (q .n)) (o .table) ≡ tableOf (heldIn q) (rowsFor q keys table))
       × ((i a : ℕ) → states * tableWidth (q .n) ≤ i → getD (o .table) i a ≡ getD table i a)
   build-built-left states e =
-      let handed = building.built-hands-over bytes keys table q accepted states (sym (out .answer) ∙ e) in
+      let handed = building.built-hands-over bytes keys table (heldIn q) (question-read bytes q) states (sym (out .answer) ∙ e) in
       rw (out .table) (handed .filled, handed .rest)
 
 -- ---- every lent buffer keeps its length

@@ -3,7 +3,9 @@ use mathlib.Core.Path.{_≡_, sym, _∙_}
 use mathlib.Core.List.{List}
 use Prim.Native.Nat.{ℕ}
 use lib.IntN.{ℤ}
+use denote.Ref.{RefT, ptr, now}
 use Rattle.scope.specs.declared.Question.{Question}
+use Rattle.scope.specs.declared.Limits.{Limits}
 use Rattle.scope.specs.declared.Held.{Held}
 use Rattle.scope.specs.declared.RecordAnswer.{RecordAnswer}
 use Rattle.scope.specs.declared.TruthAnswer.{TruthAnswer}
@@ -13,7 +15,7 @@ use Rattle.scope.specs.Words.{Word}
 use Rattle.scope.specs.Deciding.{Decided, decided}
 use Rattle.scope.specs.Building.{Built, built}
 use Rattle.wire.specs.declared.ReadPart.{ReadPart}
-use Rattle.pelohuaki.specs.Calls.{RecordOutcome, BodyOutcome, ReadOutcome, PartOutcome, JudgeOutcome, RunOutcome, SpellOutcome, WriteOutcome, DecideOutcome, BuildOutcome}
+use Rattle.promises.specs.Calls.{EmptyOutcome, LimitsOutcome, RecordOutcome, BodyOutcome, ReadOutcome, PartOutcome, JudgeOutcome, RunOutcome, SpellOutcome, WriteOutcome, DecideOutcome, BuildOutcome}
 
 -- ---- the outcome of a call that is lent buffers is that of the definitions
 
@@ -28,11 +30,22 @@ build-is bytes keys table a = λ i. record { answer = a .answer i; keys = a .key
 
 -- ---- any two coincide
 
+pub empty-once : {r s : Question} → EmptyOutcome r → EmptyOutcome s → r ≡ s
+empty-once a b = a ∙ sym b
+
+pub limits-once : {r s : Limits} → LimitsOutcome r → LimitsOutcome s → r ≡ s
+limits-once a b = a ∙ sym b
+
 pub record-once : (bytes : List ℕ) (at : ℕ) {r s : RecordAnswer} → RecordOutcome bytes at r → RecordOutcome bytes at s → r ≡ s
 record-once bytes at a b = a ∙ sym b
 
-pub body-once : (bytes : List ℕ) (start len : ℕ) {p q : List ℕ} → BodyOutcome bytes start len p → BodyOutcome bytes start len q → p ≡ q
-body-once bytes start len a b = a ∙ sym b
+-- of a part of the caller's bytes, where it lies and what it holds: that is all of a reference that a program can see
+pub record SamePart (p q : RefT (List ℕ)) : Type 0 where
+  pub lies : ptr p ≡ ptr q
+  pub holds : now p ≡ now q
+
+pub body-once : (bytes : RefT (List ℕ)) (start len : ℕ) {p q : RefT (List ℕ)} → BodyOutcome bytes start len p → BodyOutcome bytes start len q → SamePart p q
+body-once bytes start len a b = record { lies = a .lies ∙ sym (b .lies); holds = a .holds ∙ sym (b .holds) }
 
 pub read-once : (bytes : List ℕ) {r s : Held} → ReadOutcome bytes r → ReadOutcome bytes s → r ≡ s
 read-once bytes a b = a ∙ sym b
