@@ -1,0 +1,2 @@
+-- What the contract of `answer_to` promises.
+pub mod Text
