@@ -8,21 +8,17 @@ ghost use Rattle.scope.specs.Deciding.{decided};
 ghost use Rattle.scope.specs.Building.{built};
 ghost use Rattle.scope.specs.Running.{ran};
 ghost use Rattle.scope.specs.Words.{spelt};
-ghost use Rattle.pelohuaki_c.specs.Told.{Gives, ReadsInto, WritesInto, DecidesInto, BuildsInto};
-ghost use Rattle.pelohuaki_c.specs.Lent.{lentQuestion};
-
-mod lending;
-mod telling;
-
-use lending::put_parts;
-use lending::question_of;
-use telling::tell_built;
-use telling::tell_decided;
-use telling::tell_read;
-use telling::tell_record;
-use telling::tell_spelt;
-use telling::tell_truth;
-use telling::tell_written;
+ghost use Rattle.lent.specs.Told.{Gives, ReadsInto, WritesInto, DecidesInto, BuildsInto};
+ghost use Rattle.lent.specs.Lent.{lentQuestion};
+use lent::put_parts;
+use lent::question_of;
+use lent::tell_built;
+use lent::tell_decided;
+use lent::tell_read;
+use lent::tell_record;
+use lent::tell_spelt;
+use lent::tell_truth;
+use lent::tell_written;
 
 #[no_mangle]
 pub extern "C" fn pelohuaki_record_at(bytes: &[u8], at: usize, told: &mut [u64]) -> u64

@@ -19,7 +19,7 @@ use Rattle.scope.specs.Building.{built}
 use Rattle.theory.specs.Octets.{Octets}
 use Rattle.theory.specs.Deciding.{StatesAre}
 use Rattle.theory.specs.Questions.{heldIn, rowsFor, Guarded, never-guarded, built-exactly}
-use Rattle.pelohuaki_c.specs.Told.{decideCells, buildCells}
+use Rattle.lent.specs.Told.{decideCells, buildCells}
 use Rattle.pelohuaki_c.proofs.pelohuaki_record_at.Reads as record-at
 use Rattle.pelohuaki_c.proofs.pelohuaki_read.Reads as read
 use Rattle.pelohuaki_c.proofs.pelohuaki_write.Reads as write
