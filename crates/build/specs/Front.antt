@@ -12,8 +12,7 @@ use borrow.Rule.Slice.PartMut.{putMid}
 use Rattle.scope.specs.Whole.{joined, atFront}
 use Rattle.scope.specs.Numbering.{Machine, Row, Rows, row, startRow, numberOf}
 use Rattle.scope.specs.Building.{nextStates, tableRow, tableCells}
-use Rattle.theory.specs.Joined.{joined-length}
-use Rattle.index.specs.Rows.{joined-append}
+use Rattle.theory.specs.Joined.{joined-length, joined-append}
 
 module _ {S : Type 0} (M : Machine S) (l : Rows S) where
   -- one letter more

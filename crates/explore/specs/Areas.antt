@@ -13,8 +13,8 @@ use lib.IntN.{ℤ}
 use Rattle.scope.specs.Whole.{joined, atFront}
 use Rattle.scope.specs.Numbering.{Machine, Row, Rows, startRow, row}
 use Rattle.theory.specs.Simulation.{AllGood, good-[], good-∷}
-use Rattle.theory.specs.Joined.{joined-length}
-use Rattle.index.specs.Rows.{rowAt, joined-append, filled-row}
+use Rattle.theory.specs.Joined.{joined-length, joined-append}
+use Rattle.index.specs.Rows.{rowAt, filled-row}
 use Rattle.explore.specs.Machine.{KeyRow}
 
 -- ---- rows as they stand in the areas

@@ -77,6 +77,13 @@ module _ (bytes : List ℕ) where
   pub read-question : {r : Held} → ReadOutcome bytes r → (q : IsQuestion bytes) → r ≡ record { answer = ReadAnswer.Accepted; question = heldIn q }
   read-question out q = out ∙ question-read bytes q
 
+  -- what breaks none is accepted: it is a question's bytes
+  pub read-unbroken : {r : Held} → ReadOutcome bytes r → (r .answer ≡ ReadAnswer.Accepted) ↔ ((ρ : Refusal) → ¬ Breaks bytes ρ)
+  read-unbroken out = rw out (unbroken, λ n. by-answer bytes (λ q e. ap (λ (h : Held). h .answer) e) (λ ρ e. absurd (n ρ (refused-iff bytes ρ .0 e))))
+    where
+      unbroken : readHeld bytes .answer ≡ ReadAnswer.Accepted → (ρ : Refusal) → ¬ Breaks bytes ρ
+      unbroken e ρ b = let x = refused-iff bytes ρ .1 b in let z : _≡_ {A = ℕ} 0 1 = cc in omega arith
+
   pub read-accepted : Octets bytes → {r : Held} → ReadOutcome bytes r → (r .answer ≡ ReadAnswer.Accepted) ↔ IsQuestion bytes
   read-accepted octets out = rw out (accepted-iff-question bytes octets)
 

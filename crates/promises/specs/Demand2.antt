@@ -41,7 +41,7 @@ use Rattle.theory.specs.Answers.{atom-count}
 use Rattle.theory.specs.TreeParsed.{question-read}
 use Rattle.theory.specs.Decided as deciding
 use Rattle.theory.specs.Decided.{RowFound, letters-fewer, NeverAt, NoRoomAt}
-use Rattle.theory.specs.Agreement.{Taken, judged-accepted, judged-machine}
+use Rattle.theory.specs.Agreement.{truth-yes, Taken, judged-accepted, judged-machine}
 use Rattle.theory.specs.Questions as questions
 use Rattle.theory.specs.Questions.{heldIn, roomFor, Guarded, short-as, never-as, HandsOver, found-hands-over, judged-as}
 use Rattle.promises.specs.Calls.{ReadOutcome, JudgeOutcome, SpellOutcome, WriteOutcome, DecideOutcome}
@@ -52,12 +52,16 @@ use Rattle.promises.specs.Demand1.{question-not-refused, spellChecks, sp
 -- (That the automaton, step by step and for every word, says what whole-number arithmetic does is `step-says` and `word-means` of theory.)
 
 module _ (bytes values : List ℕ) (q : IsQuestion bytes) (taken : Taken (q .n) values) {t : TruthAnswer} (out : JudgeOutcome bytes values t) where
-  pub judge-arithmetic : t ≡ truthOf (trueFor (q .tree) values)
-  judge-arithmetic = out ∙ judged-as bytes values q taken
+  pub judge-is : t ≡ truthOf (trueFor (q .tree) values)
+  judge-is = out ∙ judged-as bytes values q taken
+
+  pub judge-arithmetic : (t ≡ TruthAnswer.Yes) ↔ (trueFor (q .tree) values ≡ true)
+  judge-arithmetic = rw judge-is (truth-yes (trueFor (q .tree) values))
 
   -- the word of 40 letters spells the values
-  pub judge-automaton : t ≡ truthOf (machineOf (heldIn q) .accepts (after (machineOf (heldIn q)) (machineOf (heldIn q) .start) (wordOfValues 40 values)))
-  judge-automaton = out ∙ judged-accepted bytes values (heldIn q) (question-read bytes q) ∙ judged-machine (heldIn q) values taken
+  pub judge-automaton : (t ≡ TruthAnswer.Yes) ↔ (machineOf (heldIn q) .accepts (after (machineOf (heldIn q)) (machineOf (heldIn q) .start) (wordOfValues 40 values)) ≡ true)
+  judge-automaton = rw (out ∙ judged-accepted bytes values (heldIn q) (question-read bytes q) ∙ judged-machine (heldIn q) values taken)
+      (truth-yes (machineOf (heldIn q) .accepts (after (machineOf (heldIn q)) (machineOf (heldIn q) .start) (wordOfValues 40 values))))
 
 -- ---- spelling: what a word of at most 64 letters spells for a variable from 1 to n
 
@@ -121,7 +125,7 @@ module _ (bytes : List ℕ) (keys : List ℤ) (path word : List ℕ) {o : Decide
     pub found-judged : (states count : ℕ) → o .answer ≡ DecideAnswer.Found states count → Taken (q .n) (spelled (q .n) (take count (o .word)))
         → {t : TruthAnswer} → JudgeOutcome bytes (spelled (q .n) (take count (o .word))) t → t ≡ TruthAnswer.Yes
     found-judged states count e taken judge =
-        judge-arithmetic bytes (spelled (q .n) (take count (o .word))) q taken judge ∙ ap truthOf (found-satisfies states count e)
+        judge-arithmetic bytes (spelled (q .n) (take count (o .word))) q taken judge .1 (found-satisfies states count e)
 
     -- never is said of no question that some naturals satisfy
     pub satisfied-not-never : (xs : List ℕ) → length xs ≡ q .n → trueFor (q .tree) xs ≡ true → (states : ℕ) → o .answer ≢ DecideAnswer.Never states

@@ -1,6 +1,7 @@
 -- Demand 3, sentence by sentence, of any outcome that the contracts allow, in the words of the tree that the bytes are.
 use mathlib.Core.Path.{_≡_, sym, ap, _∙_}
 use mathlib.Core.Logic.{_↔_, _≢_}
+use mathlib.Core.Bool.{true}
 use mathlib.Core.List.{List}
 use Prim.Native.Nat.{ℕ, _*_, _≤_, _<_}
 use native.Mathlib.Nat.{le-div-iff-mul-le}
@@ -24,12 +25,12 @@ use Rattle.theory.specs.Spelling.{wordOfValues}
 use Rattle.theory.specs.Reachable.{AtMost}
 use Rattle.theory.specs.Deciding.{StatesAre}
 use Rattle.theory.specs.Built as building
-use Rattle.theory.specs.Agreement.{Taken, word-over, word-spells}
+use Rattle.theory.specs.Agreement.{truth-yes, Taken, word-over, word-spells}
 use Rattle.theory.specs.Questions as questions
 use Rattle.theory.specs.Questions.{heldIn, rowsFor, table-answers}
 use Rattle.promises.specs.Calls.{JudgeOutcome, RunOutcome, BuildOutcome}
 use Rattle.promises.specs.Demand1.{truth-not-refused}
-use Rattle.promises.specs.Demand2.{some-atom, judge-arithmetic}
+use Rattle.promises.specs.Demand2.{some-atom, judge-is}
 
 -- the filled rows alone, which are handed on with the question's n
 abbrev pub tableIn : ℕ → ℕ → List ℕ → List ℕ
@@ -76,20 +77,24 @@ module _ (bytes : List ℕ) (keys : List ℤ) (table : List ℕ) {o : Built} (ou
     -- "The table alone, run without the question on any word of its letters, short or long, says yes exactly if the naturals that the word
     -- spells satisfy the question."
     module _ (states : ℕ) (is-built : o .answer ≡ BuildAnswer.Built states) where
-      pub table-says : (w : Word) → Over (letters (q .n)) w → {t : TruthAnswer} → RunOutcome (q .n) (tableIn (q .n) states (o .table)) w t
+      pub table-is : (w : Word) → Over (letters (q .n)) w → {t : TruthAnswer} → RunOutcome (q .n) (tableIn (q .n) states (o .table)) w t
           → t ≡ truthOf (trueFor (q .tree) (spelled (q .n) w))
-      table-says w over run =
+      table-is w over run =
           run ∙ ap (λ (l : List ℕ). ran (q .n) (tableIn (q .n) states l) w) (out .table)
           ∙ table-answers bytes keys table q states (sym (out .answer) ∙ is-built) w over
 
+      pub table-says : (w : Word) → Over (letters (q .n)) w → {t : TruthAnswer} → RunOutcome (q .n) (tableIn (q .n) states (o .table)) w t
+          → (t ≡ TruthAnswer.Yes) ↔ (trueFor (q .tree) (spelled (q .n) w) ≡ true)
+      table-says w over run = rw (table-is w over run) (truth-yes (trueFor (q .tree) (spelled (q .n) w)))
+
       -- it is never refused
       pub table-taken : (w : Word) → Over (letters (q .n)) w → {t : TruthAnswer} → RunOutcome (q .n) (tableIn (q .n) states (o .table)) w t → (ρ : Refusal) → t ≢ TruthAnswer.Refused ρ
-      table-taken w over run ρ e = truth-not-refused (trueFor (q .tree) (spelled (q .n) w)) ρ (sym (table-says w over run) ∙ e)
+      table-taken w over run ρ e = truth-not-refused (trueFor (q .tree) (spelled (q .n) w)) ρ (sym (table-is w over run) ∙ e)
 
       -- and judging agrees: the word of 40 letters spells the values
       pub table-judged : (values : List ℕ) → Taken (q .n) values → {t j : TruthAnswer} → RunOutcome (q .n) (tableIn (q .n) states (o .table)) (wordOfValues 40 values) t
           → JudgeOutcome bytes values j → j ≡ t
       table-judged values taken run judge =
-          judge-arithmetic bytes values q taken judge
+          judge-is bytes values q taken judge
           ∙ ap (λ (xs : List ℕ). truthOf (trueFor (q .tree) xs)) (sym (word-spells (heldIn q) values taken))
-          ∙ sym (table-says (wordOfValues 40 values) (word-over (heldIn q) values taken) run)
+          ∙ sym (table-is (wordOfValues 40 values) (word-over (heldIn q) values taken) run)

@@ -179,7 +179,7 @@ module _ (b : Builder) (meets : MeetsBuild b) where
 
   -- what the table says of a word: demand 3
   says : (w : Word) → Over (letters (one .n)) w → (x : Bool) → trueFor (one .tree) (spelled (one .n) w) ≡ x → ran (one .n) (tableIn (one .n) (one-built .0) (made .table)) w ≡ truthOf x
-  says w over x e = three.table-says (questionBytes 1 isOne) someKeys someTable made-out one (one-built .0) (one-built .1) w over refl ∙ ap truthOf e
+  says w over x e = three.table-is (questionBytes 1 isOne) someKeys someTable made-out one (one-built .0) (one-built .1) w over refl ∙ ap truthOf e
 
   -- one that builds a table that always says no: demand 3
   pub not-always-no : ¬ EachBuilt b (λ n states table table₁. (w : Word) → Over (letters n) w → ran n (tableIn n states table₁) w ≡ TruthAnswer.No)

@@ -22,18 +22,18 @@ use Rattle.scope.specs.Numbering.{machineOf}
 use Rattle.scope.specs.Deciding.{Decided}
 use Rattle.scope.specs.Building.{Built}
 use Rattle.scope.specs.Running.{saysYes}
-use Rattle.theory.specs.Octets.{Octets}
 use Rattle.theory.specs.Held.{Sized}
 use Rattle.theory.specs.Checks.{Passed, FirstFailing}
+use Rattle.theory.specs.Answers.{refused-iff}
 use Rattle.theory.specs.WritingStopped.{RefusedAt}
 use Rattle.theory.specs.Reachable.{AtMost}
 use Rattle.theory.specs.Deciding.{StatesAre}
 use Rattle.theory.specs.Decided.{RowFound, NeverAt, NoRoomAt}
 use Rattle.theory.specs.Agreement.{Taken}
-use Rattle.theory.specs.Questions.{heldIn, roomFor, found-as, short-as, never-as, no-room-as, rowsFor, built-as, unbuilt-as}
+use Rattle.theory.specs.Questions.{judged-unread, judged-others, heldIn, roomFor, found-as, short-as, never-as, no-room-as, rowsFor, built-as, unbuilt-as}
 use Rattle.promises.specs.Calls.{RecordOutcome, ReadOutcome, JudgeOutcome, RunOutcome, SpellOutcome, WriteOutcome, DecideOutcome, BuildOutcome}
-use Rattle.promises.specs.Demand1.{Breaks, read-question, recordChecks, record-refused, record-there, read-refused, decide-refused, build-refused, OtherValues, judge-refused, runChecks, run-refused, run-answered, spellChecks, spell-refused, spell-answered, TooLong, write-refused, WrittenFor, write-written}
-use Rattle.promises.specs.Demand2.{judge-arithmetic}
+use Rattle.promises.specs.Demand1.{Breaks, read-question, recordChecks, record-refused, record-there, read-refused, decide-refused, build-refused, runChecks, run-refused, run-answered, spellChecks, spell-refused, spell-answered, TooLong, write-refused, WrittenFor, write-written}
+use Rattle.promises.specs.Demand2.{judge-is}
 
 -- ---- reading, a bare step and writing
 
@@ -41,8 +41,8 @@ module _ (bytes : List ℕ) {r : Held} (out : ReadOutcome bytes r) where
   pub read-broken : (ρ : Refusal) → Breaks bytes ρ → readTold (r .answer) ≡ refused ρ
   read-broken ρ b = ap readTold (read-refused bytes out ρ .1 b)
 
-  pub read-unbroken : IsQuestion bytes → readTold (r .answer) ≡ given []
-  read-unbroken q = ap (λ (h : Held). readTold (h .answer)) (read-question bytes out q)
+  pub read-taken : IsQuestion bytes → readTold (r .answer) ≡ given []
+  read-taken q = ap (λ (h : Held). readTold (h .answer)) (read-question bytes out q)
 
 module _ (bytes : List ℕ) (at : ℕ) {r : RecordAnswer} (out : RecordOutcome bytes at r) where
   pub record-failing : (ρ : Refusal) → FirstFailing (recordChecks bytes at) ρ → recordTold r ≡ refused ρ
@@ -64,18 +64,18 @@ module _ (q : Question) (buffer : List ℕ) {o : Wrote} (out : WriteOutcome q bu
 -- ---- judging, running and spelling
 
 module _ (bytes values : List ℕ) {t : TruthAnswer} (out : JudgeOutcome bytes values t) where
-  pub judge-broken : Octets bytes → (ρ : Refusal) → Breaks bytes ρ → truthTold t ≡ refused ρ
-  judge-broken octets ρ b = ap truthTold (judge-refused bytes values octets out ρ .1 (inl b))
+  pub judge-broken : (ρ : Refusal) → Breaks bytes ρ → truthTold t ≡ refused ρ
+  judge-broken ρ b = ap truthTold (out ∙ judged-unread bytes values ρ (refused-iff bytes ρ .1 b))
 
-  pub judge-others : Octets bytes → (ρ : Refusal) → OtherValues bytes values ρ → truthTold t ≡ refusedWith 9 []
-  judge-others octets ρ v = ap truthTold (judge-refused bytes values octets out ρ .1 (inr v)) ∙ ap refused (v .told)
+  pub judge-others : (q : IsQuestion bytes) → ¬ Taken (q .n) values → truthTold t ≡ refusedWith 9 []
+  judge-others q n = ap truthTold (out ∙ judged-others bytes values q n)
 
   module _ (q : IsQuestion bytes) (taken : Taken (q .n) values) where
     pub judge-yes : trueFor (q .tree) values ≡ true → truthTold t ≡ given (1 ∷ [])
-    judge-yes s = ap truthTold (judge-arithmetic bytes values q taken out) ∙ rw s
+    judge-yes s = ap truthTold (judge-is bytes values q taken out) ∙ rw s
 
     pub judge-no : trueFor (q .tree) values ≡ false → truthTold t ≡ given (0 ∷ [])
-    judge-no s = ap truthTold (judge-arithmetic bytes values q taken out) ∙ rw s
+    judge-no s = ap truthTold (judge-is bytes values q taken out) ∙ rw s
 
 module _ (n : ℕ) (cells : List ℕ) (word : Word) {t : TruthAnswer} (out : RunOutcome n cells word t) where
   pub run-failing : (ρ : Refusal) → FirstFailing (runChecks n cells word) ρ → truthTold t ≡ refused ρ

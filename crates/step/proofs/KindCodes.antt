@@ -9,18 +9,10 @@ use borrow.Author.Tests.{ne-eqb}
 use lib.Dec.{eqb}
 use lib.ListN.{length, getD, take, drop, set, take-append-drop, length-append}
 use lib.Seq.{take-suc}
-use Rattle.scope.specs.Question.{Node, unused, atom, Kind, nodeOf, kindsOf}
+use Rattle.scope.specs.Question.{Node, unused, nodeOf, kindsOf}
+use Rattle.theory.specs.Noting.{kinds-append}
 use Rattle.step.specs.Eight.{padded, padded-next}
 use Rattle.step.specs.Cells.{kindCode, kindCodes}
-
-kinds-append : (xs ys : List Node) → kindsOf (xs ++ ys) ≡ kindsOf xs ++ kindsOf ys
-unfolding kindsOf
-kinds-append [] ys = refl
-kinds-append (unused ∷ xs) ys = kinds-append xs ys
-kinds-append (atom κ ∷ xs) ys = ap (λ (l : List Kind). κ ∷ l) (kinds-append xs ys)
-kinds-append (Node.not ∷ xs) ys = kinds-append xs ys
-kinds-append (Node.and ∷ xs) ys = kinds-append xs ys
-kinds-append (Node.or ∷ xs) ys = kinds-append xs ys
 
 codes-append : (xs ys : List ℕ) → kindCodes (xs ++ ys) ≡ kindCodes xs ++ kindCodes ys
 unfolding kindCodes

@@ -2,7 +2,7 @@
 use mathlib.Core.Path.{_≡_, refl, sym, ap, _∙_}
 use mathlib.Core.Logic.{_≢_}
 use mathlib.Core.Bool.{Bool, true, false, not, cond}
-use mathlib.Core.List.{List, [], _∷_, map}
+use mathlib.Core.List.{List, [], _∷_, _++_, map}
 use Prim.Native.Nat.{ℕ, zero, suc, _+_, _*_, _≤_, _<_}
 use native.Mathlib.Omega.{arith}
 use lib.Dec.{T}
@@ -10,7 +10,7 @@ use lib.ListN.{length, getD, set, length-set}
 use lib.Seq.{sets, length-sets, getD-set-same, getD-set-other}
 use lib.IntN.{ℤ, pos}
 use Rattle.scope.specs.declared.Question.{Question}
-use Rattle.scope.specs.Question.{Node, unused, atom, nodeOf, codeOf, isAtom, kindsOf, coefficientsOf, constantOf}
+use Rattle.scope.specs.Question.{Kind, Node, unused, atom, nodeOf, codeOf, isAtom, kindsOf, coefficientsOf, constantOf}
 use Rattle.scope.specs.Wire.{Shape, noted}
 use Rattle.theory.specs.Records.{node-of-code}
 use Rattle.theory.specs.Held.{stretch-sets, stretch-same, getD-sets-out, Sized, Blank, Agree}
@@ -101,6 +101,15 @@ kinds-cons (atom κ) xs = omega arith
 kinds-cons Node.not xs = omega arith
 kinds-cons Node.and xs = omega arith
 kinds-cons Node.or xs = omega arith
+
+pub kinds-append : (xs ys : List Node) → kindsOf (xs ++ ys) ≡ kindsOf xs ++ kindsOf ys
+unfolding kindsOf
+kinds-append [] ys = refl
+kinds-append (unused ∷ xs) ys = kinds-append xs ys
+kinds-append (atom κ ∷ xs) ys = ap (λ (l : List Kind). κ ∷ l) (kinds-append xs ys)
+kinds-append (Node.not ∷ xs) ys = kinds-append xs ys
+kinds-append (Node.and ∷ xs) ys = kinds-append xs ys
+kinds-append (Node.or ∷ xs) ys = kinds-append xs ys
 
 -- one node more, where there was none
 pub kinds-set : (l : List ℕ) (i : ℕ) (x : Node) → i < length l → getD l i 0 ≡ 0

@@ -18,6 +18,7 @@ use Rattle.scope.specs.Wire.{Shape, Reading, grown, noted, kindOf, nodeOfKind, 
 use Rattle.scope.specs.Writing.{recordBytes, atomBody}
 use Rattle.scope.specs.Tree.{Tree, nodesIn, atomsIn, withinLimits, treeBytes, questionBytes, heldBy, heldAs}
 use Rattle.theory.specs.Checks.{onward-going, onward-ended}
+use Rattle.theory.specs.Joined.{each-append}
 use Rattle.theory.specs.Octets.{numbers-length}
 use Rattle.theory.specs.Records.{record-length, record-kind, record-body, header-there, body-there, body-length, body-coefficients, body-constant, node-of-kind, kind-small}
 use Rattle.theory.specs.ReadingSteps.{nodeAt, coefficientsAt, constantAt, afterHead, HeadThere, NodeThere, afterNode, EndThere, afterEnd, record-ended}
@@ -25,7 +26,7 @@ use Rattle.theory.specs.Sound.{variables-range}
 use Rattle.theory.specs.ReadWritten.{numbers-fit}
 use Rattle.theory.specs.Stopped.{Reached, first, later, reached-onward, reached-sound}
 use Rattle.theory.specs.Answers.{ended-held}
-use Rattle.theory.specs.Trees.{TreeLimits, tree-limits, Fits, tree-fits, fits-depth, some-node, leafOf, Narrow, narrow-append, held-more}
+use Rattle.theory.specs.Trees.{TreeLimits, tree-limits, Fits, tree-fits, fits-depth, some-node, leafOf, Narrow, held-more}
 
 -- ---- what was noted so far is held by nodes and atoms
 
@@ -113,7 +114,7 @@ module _ {b : List ℕ} {s : Reading} {x : Node} {cs : List ℤ} {k : ℤ} {dept
         question = m .question ∙ more ∙ ap (λ (j : ℕ). heldBy j (xs ++ (x ∷ [])) (ats ++ leafOf x cs k)) (sym moved-n);
         nodes = m .nodes ∙ omega (arith, h .nodes, length-append xs (x ∷ []));
         atoms = m .atoms ∙ omega (arith, h .atoms, length-append ats (leafOf x cs k), leaf-count x);
-        narrow = narrow-append ats (leafOf x cs k) (h .narrow) (leaf-narrow x);
+        narrow = each-append (λ (a : Atom). length (a .coefficients) ≤ 6) ats (leafOf x cs k) (h .narrow) (leaf-narrow x);
       }
     where
       leaf-count : (x : Node) → cond (isAtom x) 1 0 ≡ length (leafOf x cs k)

@@ -8,19 +8,20 @@ use native.Mathlib.Nat.{add-zero}
 use native.Mathlib.Numerals.{add-one}
 use native.Mathlib.Omega.{arith}
 use lib.Dec.{T, leb, eqb, leb→le, le→leb, eqb→eq}
-use lib.ListN.{length, getD, take, drop, set, replicate, length-append, length-drop, length-map, length-replicate}
-use lib.Seq.{sets, sets-eq, set-append-seam, append-snoc, drop-cons, drop-drop, take-append-seam, drop-append-add, getD-drop, take-at, drop-at}
+use lib.ListN.{length, getD, take, drop, set, replicate, length-append, length-map, length-replicate}
+use lib.Seq.{sets, drop-drop, getD-drop, take-at, drop-at}
 use lib.IntN.{ℤ, pos}
 use Rattle.scope.specs.declared.Question.{Question}
 use Rattle.scope.specs.Whole.{all, joined, atFront}
 use Rattle.scope.specs.Sizes.{variablesFit, numbersFit}
-use Rattle.scope.specs.Question.{Kind, Node, unused, nodeOf, codeOf, isAtom, nodesOf, kindsOf, Atom, atomsFrom, atomsOf, coefficientsOf, constantOf}
+use Rattle.scope.specs.Question.{Kind, equation, Node, unused, nodeOf, codeOf, isAtom, nodesOf, kindsOf, Atom, atomsFrom, atomsOf, coefficientsOf, constantOf}
 use Rattle.scope.specs.Wire.{Shape, noted}
 use Rattle.scope.specs.Tree.{Tree, nodesIn, atomsIn, depthOf, atomFits, withinLimits, rowOf, heldBy, heldAs}
 use Rattle.theory.specs.Checks.{and-first, and-second, and-both}
 use Rattle.theory.specs.Records.{node-of-code}
+use Rattle.theory.specs.Noting.{kinds-append}
 use Rattle.theory.specs.ReadingSteps.{eq→eqb}
-use Rattle.theory.specs.Joined.{atFront-length}
+use Rattle.theory.specs.Joined.{joined-length, joined-append, atFront-length, atFront-set, atFront-sets, atFront-same, Each, each-append, each-at}
 
 -- ---- the limits, one by one
 
@@ -130,41 +131,6 @@ some-node (Tree.or t u) = omega arith
 -- ---- the held value grows by a node at a time
 
 module _ {A : Type 0} where
-  -- a cell more at the front
-  front-set : (l b : List A) (v : A) → length l < length b → set (atFront l b) (length l) v ≡ atFront (l ++ (v ∷ [])) b
-  unfolding atFront
-  front-set l b v h =
-      let next : length (l ++ (v ∷ [])) ≡ suc (length l) = length-append l (v ∷ []) ∙ add-one (length l) in
-      ap (λ (r : List A). set (l ++ r) (length l) v) (drop-cons b (length l) v h)
-      ∙ set-append-seam l (getD b (length l) v) (drop (suc (length l)) b) v
-      ∙ sym (append-snoc l v (drop (suc (length l)) b))
-      ∙ ap (λ (k : ℕ). l ++ (v ∷ []) ++ drop k b) (sym next)
-
-  -- more cells at the front
-  front-sets : (l b vs : List A) → length l + length vs ≤ length b → sets (atFront l b) (length l) vs ≡ atFront (l ++ vs) b
-  unfolding atFront
-  front-sets l b vs h =
-      let long : length (l ++ drop (length l) b) ≡ length b = length-append l (drop (length l) b) ∙ omega (arith, length-drop (length l) b) in
-      sets-eq vs (l ++ drop (length l) b) (length l) (omega (arith, long))
-      ∙ (λ i. take-append-seam l (drop (length l) b) i ++ vs ++ drop-append-add l (drop (length l) b) (length vs) i)
-      ∙ ap (λ (r : List A). l ++ vs ++ r) (drop-drop (length vs) (length l) b)
-      ∙ ap (λ (k : ℕ). l ++ vs ++ drop k b) (sym (length-append l vs))
-
-  -- what stands there already changes nothing
-  front-same : (l b : List A) (k : ℕ) → atFront (l ++ take k (drop (length l) b)) b ≡ atFront l b
-  unfolding atFront
-  front-same l b k =
-      let rest : List A = drop (length l) b in
-      ap (λ (j : ℕ). l ++ take k rest ++ drop j b) (length-append l (take k rest))
-      ∙ append-assoc l (take k rest) (drop (length l + length (take k rest)) b)
-      ∙ ap (λ (r : List A). l ++ (take k rest ++ r)) (sym (drop-drop (length (take k rest)) (length l) b))
-      ∙ ap (λ (r : List A). l ++ r) (both k rest)
-    where
-      both : (k : ℕ) (l : List A) → take k l ++ drop (length (take k l)) l ≡ l
-      both zero l = refl
-      both (suc k) [] = refl
-      both (suc k) (x ∷ l) = ap (λ (r : List A). x ∷ r) (both k l)
-
   drop-same : (k m : ℕ) (z : A) → drop k (replicate m z) ≡ replicate (m - k) z
   drop-same zero m z = let e : m ≡ m - 0 = omega arith in ap (λ (j : ℕ). replicate j z) e
   drop-same (suc k) zero z = let e : 0 ≡ 0 - suc k = omega arith in ap (λ (j : ℕ). replicate j z) e
@@ -190,22 +156,12 @@ row-length a h = atFront-length (a .coefficients) (replicate 6 (pos 0)) h
 
 -- each atom has at most six coefficients
 abbrev pub Narrow : List Atom → Type 0
-Narrow [] = Unit {0}
-Narrow (a ∷ ats) = (length (a .coefficients) ≤ 6) × Narrow ats
-
-pub narrow-append : (l k : List Atom) → Narrow l → Narrow k → Narrow (l ++ k)
-narrow-append [] k p q = q
-narrow-append (a ∷ l) k p q = (p .0, narrow-append l k (p .1) q)
+Narrow ats = Each (λ (a : Atom). length (a .coefficients) ≤ 6) ats
 
 rows-length : (ats : List Atom) → Narrow ats → length (joined (map rowOf ats)) ≡ 6 * length ats
-unfolding joined
-rows-length [] h = refl
-rows-length (a ∷ ats) h = length-append (rowOf a) (joined (map rowOf ats)) ∙ omega (arith, row-length a (h .0), rows-length ats (h .1))
-
-joined-append : (l k : List (List ℤ)) → joined (l ++ k) ≡ joined l ++ joined k
-unfolding joined
-joined-append [] k = refl
-joined-append (x ∷ l) k = ap (λ (r : List ℤ). x ++ r) (joined-append l k) ∙ sym (append-assoc x (joined l) (joined k))
+rows-length ats narrow =
+    let none : Atom = record { kind = equation; coefficients = []; constant = pos 0 } in
+    joined-length rowOf 6 none ats (λ t h. row-length (getD ats t none) (each-at (λ (a : Atom). length (a .coefficients) ≤ 6) ats none narrow t h)) ∙ omega arith
 
 -- an atom's coefficients put over zeros are its row
 row-put : (ats : List Atom) (a : Atom) → Narrow ats → length (a .coefficients) ≤ 6 → length ats < 8
@@ -223,8 +179,8 @@ row-put ats a narrow short few =
     let all-rows : joined (map rowOf (ats ++ (a ∷ []))) ≡ (rows ++ cs) ++ drop (length cs) (replicate 6 (pos 0)) =
     ap joined (map-append rowOf ats (a ∷ [])) ∙ joined-append (map rowOf ats) (rowOf a ∷ []) ∙ ap (λ (r : List ℤ). rows ++ r) (append-nil (rowOf a)) ∙ sym (append-assoc rows cs (drop (length cs) (replicate 6 (pos 0)))) in
     ap (λ (k : ℕ). sets (atFront rows zeros) k cs) (sym long)
-    ∙ front-sets rows zeros cs (omega (arith, long, length-replicate {A = ℤ} 48 (pos 0)))
-    ∙ sym (front-same (rows ++ cs) zeros (6 - length cs))
+    ∙ atFront-sets rows zeros cs (omega (arith, long, length-replicate {A = ℤ} 48 (pos 0)))
+    ∙ sym (atFront-same (rows ++ cs) zeros (6 - length cs))
     ∙ ap (λ (r : List ℤ). atFront ((rows ++ cs) ++ r) zeros) (sym blank)
     ∙ ap (λ (r : List ℤ). atFront r zeros) (sym all-rows)
 
@@ -233,7 +189,7 @@ module _ (n : ℕ) (xs : List Node) (ats : List Atom) (narrow : Narrow ats) (s :
   code-put x =
       let long : length (map codeOf xs) ≡ length xs = length-map xs codeOf in
       ap (λ (k : ℕ). set (atFront (map codeOf xs) (replicate 64 0)) k (codeOf x)) (nodes ∙ sym long)
-      ∙ front-set (map codeOf xs) (replicate 64 0) (codeOf x) (omega (arith, long, length-replicate {A = ℕ} 64 0))
+      ∙ atFront-set (map codeOf xs) (replicate 64 0) (codeOf x) (omega (arith, long, length-replicate {A = ℕ} 64 0))
       ∙ ap (λ (l : List ℕ). atFront l (replicate 64 0)) (sym (map-append codeOf xs (x ∷ [])))
 
   connective-put : (x : Node) (cs : List ℤ) (k : ℤ) → noted false x cs k s (heldBy n xs ats) ≡ heldBy n (xs ++ (x ∷ [])) (ats ++ [])
@@ -253,7 +209,7 @@ module _ (n : ℕ) (xs : List Node) (ats : List Atom) (narrow : Narrow ats) (s :
       ap (λ (j : ℕ). sets (atFront (joined (map rowOf ats)) (replicate 48 (pos 0))) (6 * j) cs) atoms ∙ row-put ats a narrow short few in
       let constant : set (atFront (map of ats) (replicate 8 (pos 0))) (s .atoms) k ≡ atFront (map of (ats ++ (a ∷ []))) (replicate 8 (pos 0)) =
       ap (λ (j : ℕ). set (atFront (map of ats) (replicate 8 (pos 0))) j k) (atoms ∙ sym long)
-      ∙ front-set (map of ats) (replicate 8 (pos 0)) k (omega (arith, long, length-replicate {A = ℤ} 8 (pos 0)))
+      ∙ atFront-set (map of ats) (replicate 8 (pos 0)) k (omega (arith, long, length-replicate {A = ℤ} 8 (pos 0)))
       ∙ ap (λ (l : List ℤ). atFront l (replicate 8 (pos 0))) (sym (map-append of ats (a ∷ []))) in
       λ i. record { n = n; codes = code-put (Node.atom κ) i; coefficients = row i; constants = constant i }
 
@@ -283,15 +239,6 @@ held-nodes n xs ats =
     ∙ (λ i. back-to-nodes xs i ++ map nodeOf (drop-same (length-map xs codeOf i) 64 0 i))
     ∙ ap (λ (l : List Node). xs ++ l) (all-unused (64 - length xs))
 
-kinds-append : (xs ys : List Node) → kindsOf (xs ++ ys) ≡ kindsOf xs ++ kindsOf ys
-unfolding kindsOf
-kinds-append [] ys = refl
-kinds-append (unused ∷ xs) ys = kinds-append xs ys
-kinds-append (Node.atom κ ∷ xs) ys = ap (λ (l : List Kind). κ ∷ l) (kinds-append xs ys)
-kinds-append (Node.not ∷ xs) ys = kinds-append xs ys
-kinds-append (Node.and ∷ xs) ys = kinds-append xs ys
-kinds-append (Node.or ∷ xs) ys = kinds-append xs ys
-
 no-kinds : (k : ℕ) → kindsOf (replicate k unused) ≡ []
 unfolding kindsOf
 no-kinds zero = refl
@@ -309,23 +256,14 @@ tree-kinds (Tree.or t u) = kinds-append (nodesIn t) (nodesIn u) ∙ (λ i. tree-
 
 -- each atom has n coefficients
 abbrev pub Wide : ℕ → List Atom → Type 0
-Wide n [] = Unit {0}
-Wide n (a ∷ ats) = (length (a .coefficients) ≡ n) × Wide n ats
-
-wide-append : (n : ℕ) (l k : List Atom) → Wide n l → Wide n k → Wide n (l ++ k)
-wide-append n [] k p q = q
-wide-append n (a ∷ l) k p q = (p .0, wide-append n l k (p .1) q)
+Wide n ats = Each (λ (a : Atom). length (a .coefficients) ≡ n) ats
 
 pub fits-wide : (n depth : ℕ) (t : Tree) → Fits n depth t → Wide n (atomsIn t)
 unfolding atomsIn
 fits-wide n depth (Tree.atom a) f = (f .1, tt)
 fits-wide n depth (Tree.not t) f = fits-wide n (depth + 1) t f
-fits-wide n depth (Tree.and t u) f = wide-append n (atomsIn t) (atomsIn u) (fits-wide n (depth + 1) t (f .0)) (fits-wide n (depth + 1) u (f .1))
-fits-wide n depth (Tree.or t u) f = wide-append n (atomsIn t) (atomsIn u) (fits-wide n (depth + 1) t (f .0)) (fits-wide n (depth + 1) u (f .1))
-
-pub wide-narrow : (n : ℕ) (ats : List Atom) → n ≤ 6 → Wide n ats → Narrow ats
-wide-narrow n [] six h = tt
-wide-narrow n (a ∷ ats) six h = (omega (arith, h .0), wide-narrow n ats six (h .1))
+fits-wide n depth (Tree.and t u) f = each-append (λ (a : Atom). length (a .coefficients) ≡ n) (atomsIn t) (atomsIn u) (fits-wide n (depth + 1) t (f .0)) (fits-wide n (depth + 1) u (f .1))
+fits-wide n depth (Tree.or t u) f = each-append (λ (a : Atom). length (a .coefficients) ≡ n) (atomsIn t) (atomsIn u) (fits-wide n (depth + 1) t (f .0)) (fits-wide n (depth + 1) u (f .1))
 
 abbrev constantIn : Atom → ℤ
 constantIn a = a .constant
