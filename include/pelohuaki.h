@@ -9,7 +9,7 @@
  * BUFFERS. Each buffer is a pointer and its length, which counts cells and not bytes. A pointer is aligned for its cells; with
  * length 0 it may be NULL. No buffer that a call writes may overlap another buffer of the same call; those that it only reads may
  * overlap each other. A call touches no other memory, takes no heap, and keeps nothing after it has returned: calls may run at the
- * same time on several threads, each with written buffers of its own. On the stack pelohuaki_decide and pelohuaki_build take 261 KiB
+ * same time on several threads, each with written buffers of its own. On the stack pelohuaki_decide and pelohuaki_build take 263 KiB
  * each, for small questions too (docs/BENCHMARKS.md): a thread of less has to be given more. The other calls take less than 4 KiB.
  *
  * ANSWERS. A call returns a refusal number, 0 where nothing is refused. The rest of its answer is in the cells of `told`, the place

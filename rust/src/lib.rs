@@ -40,7 +40,7 @@
 //! Every input gets an answer: no call panics, and none asks anything of its caller. What a call
 //! leaves in the areas that are lent to it is fixed for every answer. [`read`], [`write()`], [`Place`],
 //! [`judge`], [`decide`], [`build`], [`run`] and [`spell`] allocate nothing and keep nothing from one
-//! call to the next; they may run on several threads. Deciding and building take 261 KiB of
+//! call to the next; they may run on several threads. Deciding and building take 263 KiB of
 //! stack each.
 //!
 //! What is proved is the archive that this crate links. The crate itself turns Rust's types into

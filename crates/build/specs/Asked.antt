@@ -1,5 +1,5 @@
 -- Building a question: its start is row 0, the machine of key rows does what the question's does, and so what is left is document 01's.
-use mathlib.Core.Path.{_≡_, refl, sym, ap, _∙_}
+use mathlib.Core.Path.{_≡_, refl, sym, ap, _∙_, subst}
 use mathlib.Core.Bool.{Bool, true, false, true≢false}
 use mathlib.Core.List.{List, []}
 use Prim.Native.Nat.{ℕ, _+_, _*_, _/_, _^_, _≤_, _<_, min}
@@ -21,10 +21,9 @@ use Rattle.scope.specs.States.{State, cellsOf, startOf}
 use Rattle.scope.specs.Numbering.{Machine, Rows, machineOf, numbered}
 use Rattle.scope.specs.Deciding.{noRoom, keyCells}
 use Rattle.scope.specs.Sizes.{mostStates}
-use Rattle.scope.specs.Building.{buildRoom, builtIf, builtQuestion, built}
+use Rattle.scope.specs.Building.{buildRoom, Built, builtIf, builtQuestion, built}
 use Rattle.theory.specs.Lawful.{machine-lawful}
 use Rattle.theory.specs.Table.{numbered-rooted}
-use Rattle.theory.specs.Range.{startOf-in}
 use Rattle.theory.specs.Exploring.{no-rows-more}
 use Rattle.theory.specs.Joined.{atFront-cells, atFront-length}
 use Rattle.theory.specs.Simulation.{Simulates, rowsMap, numbered-maps, states-map, same-length, same-counted, same-table}
@@ -34,16 +33,17 @@ use Rattle.theory.specs.Built.{builtOf, without-room}
 use Rattle.index.specs.Rows.{stored-at-front}
 use Rattle.theory.specs.Answers.{atom-count}
 use Rattle.theory.specs.Accepted.{WithinLimits, accepted-within}
+use Rattle.step.specs.declared.Kinds.{Kinds}
 use Rattle.step.specs.Eight.{padded}
 use Rattle.step.specs.Cells.{kindCodes, Coefficients, Sums}
 use Rattle.step.specs.Atoms.{few-atoms, kinds-count, coefficients-fit}
-use Rattle.step.specs.Laws.{Tables, KeyRow, start-cells}
+use Rattle.step.specs.Laws.{start-cells}
+use Rattle.explore.specs.declared.Plan.{Plan}
+use Rattle.explore.specs.Machine.{machine}
 use Rattle.explore.specs.Areas.{rowCells, front-twice}
-use Rattle.explore.specs.Standing.{Task}
-use Rattle.explore.specs.Outcome.{Ready}
-use Rattle.explore.specs.Simulated.{simulates, question-task, start-fits}
-use Rattle.build.specs.Tabling.{machineIn}
+use Rattle.explore.specs.Simulated.{Planned, PlanAsked, PlanMade, simulates, question-task, start-fits}
 use Rattle.build.specs.Builds.{Builds, filledIf, filled}
+use Rattle.build.specs.Filling.{Filling, path-fits}
 
 -- ---- a machine that does the same leaves the same
 
@@ -72,15 +72,15 @@ module _ (q : Question) {M : Machine (List ℤ)} {Good : State → Type 0} (same
       let cells : rowCells (take rows (numbered M rows)) ≡ keyCells (take rows (rowsOf q rows)) = ap rowCells (same-counted same rows noRoom rows) ∙ rows-cells (take rows (rowsOf q rows)) in
       rw (cells, over-start rows (omega (arith, length-take rows (rowsOf q rows), not-empty)))
 
-  pub filled-question : filled M rows (atFront start keys) table ≡ builtOf q rows keys table
+  filled-question : filled M rows (atFront start keys) table ≡ builtOf q rows keys table
   filled-question = rw (same-length same rows) (filled-as (leb (length (rowsOf q rows)) rows))
 
--- ---- an accepted question, its kinds, its letters, and the rows lent
+-- ---- an accepted question, its atoms, and the rows lent
 
-pub record Lends (q : Question) (kinds : List ℕ) (m letters rows : ℕ) (keys : List ℤ) (table : List ℕ) : Type 0 where
+pub record Lends (q : Question) (atoms : Kinds) (rows : ℕ) (keys : List ℤ) (table : List ℕ) : Type 0 where
   pub limits : WithinLimits q
-  pub kinds-are : (kinds ≡ padded 0 (kindCodes (q .codes))) × (m ≡ length (kindCodes (q .codes)))
-  pub letters-are : letters ≡ 2 ^ q .n
+  pub kinds-are : atoms .kinds ≡ padded 0 (kindCodes (q .codes))
+  pub count : atoms .m ≡ length (kindCodes (q .codes))
   pub rows-are : rows ≡ buildRoom q keys table
   pub some-rows : 0 < rows
 
@@ -92,86 +92,107 @@ pub room-is : (q : Question) (m letters rows : ℕ) (keys : List ℤ) (table : L
 unfolding buildRoom
 room-is q m letters rows keys table e f g = g ∙ rw (e, kinds-count q, f)
 
+room-low : (q : Question) (keys : List ℤ) (table : List ℕ) → buildRoom q keys table ≤ 65535
+unfolding buildRoom
+room-low q keys table = omega arith
+
 rows-fit : (rows w size : ℕ) → rows ≤ size / w → rows * w ≤ size
 rows-fit rows w size h = omega (arith, mul-le-mul-right w h, div-mul-le-self size w)
 
-module _ {q : Question} {kinds : List ℕ} {m letters rows : ℕ} {keys : List ℤ} {table : List ℕ} (l : Lends q kinds m letters rows keys table) where
-  atoms : m ≡ atomCount q
-  atoms = l .kinds-are .1 ∙ kinds-count q
+module _ {q : Question} {atoms : Kinds} {rows : ℕ} {keys : List ℤ} {table : List ℕ} (l : Lends q atoms rows keys table) where
+  atoms-are : atoms .m ≡ atomCount q
+  atoms-are = l .count ∙ kinds-count q
 
-  few-cells : m ≤ 8
-  few-cells = rw atoms (few-atoms (l .limits))
+  -- what the letters' sums ask, and what the plan asks
+  pub asks-sums : Coefficients (q .n) (atoms .m) (q .coefficients)
+  asks-sums = rw atoms-are (coefficients-fit (l .limits))
 
-  keys-room : rows * m ≤ length keys
-  keys-room = rows-fit rows m (length keys) (rw (atoms, l .rows-are) (build-room-keys q keys table))
+  pub asks-plan : {sums : List ℤ} → Sums (q .n) (atoms .m) (q .coefficients) sums → length sums ≡ 512 → PlanAsked q atoms sums
+  asks-plan sums-are whole = record { limits = l .limits; kinds-are = l .kinds-are; count = atoms-are; sums-are = sums-are; whole = whole }
 
-  few-rows : rows ≤ 65535
-  unfolding buildRoom
-  few-rows = omega (arith, l .rows-are)
+  -- ---- the plan
 
-  one-row : m ≤ length keys
-  one-row = let e : 1 * m ≤ rows * m = mul-le-mul-right m (l .some-rows) in omega (arith, keys-room)
+  module _ {sums : List ℤ} {plan : Plan} (made : PlanMade q sums rows false false plan) where
+    planned : Planned q plan sums
+    planned = made .planned
 
-  -- what the letters' sums ask, what storing the start asks, and the table's room
-  pub asks-sums : Coefficients (q .n) m (q .coefficients)
-  asks-sums = rw atoms (coefficients-fit (l .limits))
+    width : plan .width ≡ atomCount q
+    width = planned .tables .count
 
-  pub asks-start : (m ≤ 8) × (m ≤ length (q .constants)) × (0 * m + m ≤ length keys)
-  asks-start = (few-cells, rw (l .limits .sized .constants) few-cells, rw (zero-mul, zero-add) one-row)
+    lent-rows : plan .rows ≡ buildRoom q keys table
+    lent-rows = made .rows-are ∙ l .rows-are
 
-  pub table-room : rows * (1 + letters) ≤ length table
-  table-room = rows-fit rows (1 + letters) (length table) (rw (l .letters-are, l .rows-are) (build-room-table q keys table))
+    few-cells : plan .width ≤ 8
+    few-cells = rw width (few-atoms (l .limits))
 
-  start-are : take m (q .constants) ≡ cellsOf (startOf (atomsOf q))
-  start-are = rw atoms (start-cells (l .limits))
+    keys-room : plan .rows * plan .width ≤ length keys
+    keys-room = rows-fit (plan .rows) (plan .width) (length keys) (rw (width, lent-rows) (build-room-keys q keys table))
 
-  start-width : length (cellsOf (startOf (atomsOf q))) ≡ m
-  start-width = sym (ap length start-are) ∙ length-take-le m (q .constants) (asks-start .1)
+    table-room : plan .rows * (1 + plan .letters) ≤ length table
+    table-room =
+        rows-fit (plan .rows) (1 + plan .letters) (length table)
+        (rw (planned .letters-are, lent-rows) (build-room-table q keys table))
 
-  -- ---- the letters' sums, and the constants stored as row 0
+    some-rows : 0 < plan .rows
+    some-rows = rw (made .rows-are) (l .some-rows)
 
-  pub tables-are : {sums : List ℤ} → Sums (q .n) m (q .coefficients) sums → Tables q kinds m sums
-  tables-are sums-are = record { limits = l .limits; kinds-are = l .kinds-are .0; count = atoms; sums-are = sums-are }
+    one-row : plan .width ≤ length keys
+    one-row = let e : 1 * plan .width ≤ plan .rows * plan .width = mul-le-mul-right (plan .width) some-rows in omega (arith, keys-room)
 
-  module _ {sums : List ℤ} (tables : Tables q kinds m sums) {keys₁ : List ℤ} (stored : keys₁ ≡ paste keys (0 * m) (q .constants) m) where
-    keys-are : keys₁ ≡ atFront (cellsOf (startOf (atomsOf q))) keys
-    unfolding atFront
-    keys-are =
-        stored
-        ∙ rw zero-mul
-        (stored-at-front [] keys (q .constants) m (asks-start .1) (rw zero-add one-row) ∙ ap (λ (c : List ℤ). atFront c keys) start-are)
+    -- what storing the start asks
+    pub asks-start : (plan .width ≤ 8) × (plan .width ≤ length (q .constants)) × (0 * plan .width + plan .width ≤ length keys)
+    asks-start = (few-cells, rw (l .limits .sized .constants) few-cells, rw (zero-mul, zero-add) one-row)
 
-    start-taken : take m keys₁ ≡ cellsOf (startOf (atomsOf q))
-    start-taken = rw keys-are (atFront-cells (cellsOf (startOf (atomsOf q))) keys m start-width)
+    start-are : take (plan .width) (q .constants) ≡ cellsOf (startOf (atomsOf q))
+    start-are = rw width (start-cells (l .limits))
 
-    keys-long : length keys₁ ≡ length keys
-    keys-long = rw keys-are (atFront-length (cellsOf (startOf (atomsOf q))) keys (rw start-width one-row))
+    start-width : length (cellsOf (startOf (atomsOf q))) ≡ plan .width
+    start-width = sym (ap length start-are) ∙ length-take-le (plan .width) (q .constants) (asks-start .1)
 
-    start-row : KeyRow q m keys₁ 0 (startOf (atomsOf q))
-    start-row = record { room = omega (arith, keys-long, one-row); inside = startOf-in (atomsOf q); cells = start-taken }
+    -- ---- the constants stored as row 0
 
-    pub asks-task : Task (q .codes) m sums letters
-    asks-task = rw (l .letters-are) (question-task tables)
+    module _ {keys₁ : List ℤ} (stored : keys₁ ≡ paste keys (0 * plan .width) (q .constants) (plan .width)) where
+      keys-are : keys₁ ≡ atFront (cellsOf (startOf (atomsOf q))) keys
+      unfolding atFront
+      keys-are =
+          stored
+          ∙ rw zero-mul
+          (stored-at-front [] keys (q .constants) (plan .width) (asks-start .1) (rw zero-add one-row) ∙ ap (λ (c : List ℤ). atFront c keys) start-are)
 
-    pub asks-ready : Ready (machineIn (q .codes) kinds m sums letters keys₁) m rows false keys₁ []
-    asks-ready = record {
-      some-rows = l .some-rows;
-      few-rows = few-rows;
-      keys-room = rw keys-long keys-room;
-      path-room = omega arith;
-      start-fits = start-fits tables start-row;
-      path-start = λ e. absurd (true≢false (sym e));
-      refused = λ e. absurd (true≢false (sym e));
-    }
+      start-taken : take (plan .width) keys₁ ≡ cellsOf (startOf (atomsOf q))
+      start-taken = rw keys-are (atFront-cells (cellsOf (startOf (atomsOf q))) keys (plan .width) start-width)
 
-    pub question-built : {answer : BuildAnswer} {keys₂ : List ℤ} {table₂ : List ℕ}
-        → Builds (filled (machineIn (q .codes) kinds m sums letters keys₁) rows keys₁ table) answer keys₂ table₂ → Builds (builtQuestion q keys table) answer keys₂ table₂
-    unfolding builtQuestion
-    question-built b =
-        let e : filled (machineIn (q .codes) kinds m sums letters keys₁) rows keys₁ table ≡ builtOf q rows keys table =
-        rw (start-taken, l .letters-are, keys-are)
-        (filled-question q (simulates tables) rows (l .some-rows) (cellsOf (startOf (atomsOf q))) (start-width ∙ atoms) keys (rw (← atoms) one-row) table) in
-        rw (← l .rows-are) (rw e at b)
+      keys-long : length keys₁ ≡ length keys
+      keys-long = rw keys-are (atFront-length (cellsOf (startOf (atomsOf q))) keys (rw start-width one-row))
+
+      pub asks-filling : Filling plan sums keys₁ [] table
+      asks-filling = record {
+        task = question-task planned;
+        notes-none = made .notes;
+        tests-none = made .tests;
+        ready = record {
+          some-rows = some-rows;
+          lent = record {
+            few-rows = omega (arith, lent-rows, room-low q keys table);
+            keys-room = omega (arith, keys-long, keys-room);
+            path-room = path-fits (made .notes) (plan .rows) [];
+          };
+          start-fits = start-fits planned keys₁ start-taken;
+          path-start = λ e. absurd (true≢false (sym e ∙ made .notes));
+          refused = λ e. absurd (true≢false (sym e ∙ made .tests));
+        };
+        table-room = table-room;
+      }
+
+      pub question-built : {answer : BuildAnswer} {keys₂ : List ℤ} {table₂ : List ℕ}
+          → Builds (filled (machine plan sums keys₁) (plan .rows) keys₁ table) answer keys₂ table₂ → Builds (builtQuestion q keys table) answer keys₂ table₂
+      unfolding builtQuestion
+      question-built {answer} {keys₂} {table₂} b =
+          let e : filled (machine plan sums keys₁) (plan .rows) keys₁ table ≡ builtOf q (buildRoom q keys table) keys table =
+          ap (λ (k : List ℤ). filled (machine plan sums keys₁) (plan .rows) k table) keys-are
+          ∙ filled-question q (simulates planned start-taken) (plan .rows) some-rows (cellsOf (startOf (atomsOf q))) (start-width ∙ width) keys (rw (← width) one-row) table
+          ∙ ap (λ (r : ℕ). builtOf q r keys table) lent-rows in
+          subst (λ (z : Built). Builds z answer keys₂ table₂) e b
 
 -- where no row is lent, nothing changes
 pub nothing-built : (q : Question) (keys : List ℤ) (table : List ℕ) → 0 ≡ buildRoom q keys table

@@ -1,7 +1,7 @@
 -- Filling the areas: numbering with so many rows, and the table written where every state has one; a first time with few rows, and where these
 -- are full on with all.
-use mathlib.Core.Path.{_≡_, refl, sym, ap, _∙_}
-use mathlib.Core.Bool.{Bool, true, false, true≢false}
+use mathlib.Core.Path.{_≡_, refl, sym, ap, _∙_, subst}
+use mathlib.Core.Bool.{Bool, true, false, cond, true≢false}
 use mathlib.Core.List.{List}
 use Prim.Native.Nat.{ℕ, _+_, _*_, _≤_, _<_}
 use native.Mathlib.Nat.{le-refl, mul-le-mul-right}
@@ -11,133 +11,162 @@ use lib.Seq.{getD-take}
 use lib.IntN.{ℤ, pos}
 use Rattle.scope.specs.declared.BuildAnswer.{BuildAnswer}
 use Rattle.scope.specs.Numbering.{Machine}
+use Rattle.explore.specs.declared.Plan.{Plan}
 use Rattle.explore.specs.declared.Stand.{Stand}
-use Rattle.explore.specs.Machine.{cell-start, cell-letters, cell-lawful}
-use Rattle.explore.specs.Standing.{Task, Stands, Ended, Lacks}
+use Rattle.explore.specs.Machine.{machine, Task, Runs, machine-runs}
+use Rattle.explore.specs.Areas.{pathCount}
+use Rattle.explore.specs.Standing.{Lent, Stands, Ended, withRows, goingAt}
 use Rattle.explore.specs.Outcome.{Ready, Numbered, exploredBy}
-use Rattle.explore.specs.Stages.{start-stands, more-stands, stopped-full, ended-after}
+use Rattle.explore.specs.Stages.{fewer-task, fewer-lent, start-stands, more-stands, stopped-full, ended-after}
 use Rattle.explore.specs.Ends.{ended-numbered}
-use Rattle.build.specs.Tabling.{machineIn, Tabling}
+use Rattle.build.specs.Tabling.{Tabling}
 use Rattle.build.specs.Table.{tableAfter}
 use Rattle.build.specs.Builds.{Builds, filled, AllRows, building-finds-none, all-rows, no-room, table-fits, tabling, all-built}
 
--- what is handed over, with room for so many rows
-pub record Filling (codes kinds : List ℕ) (m : ℕ) (sums : List ℤ) (letters rows : ℕ) (keys : List ℤ) (path table : List ℕ) : Type 0 where
-  pub task : Task codes m sums letters
-  pub ready : Ready (machineIn codes kinds m sums letters keys) m rows false keys path
-  pub table-room : rows * (1 + letters) ≤ length table
+-- what is handed over, with room for the plan's rows. Building has no path area, and tests no state
+pub record Filling (plan : Plan) (sums keys : List ℤ) (path table : List ℕ) : Type 0 where
+  pub task : Task plan sums
+  pub notes-none : plan .noting ≡ false
+  pub tests-none : plan .testing ≡ false
+  pub ready : Ready (machine plan sums keys) plan keys path
+  pub table-room : plan .rows * (1 + plan .letters) ≤ length table
 
--- the table by whether numbering has stopped
-abbrev pub TableBy : Bool → List ℕ → List ℕ → ℕ → List ℤ → ℕ → List ℤ → ℕ → List ℕ → List ℕ → Type 0
-TableBy true codes kinds m sums letters keys count table₀ table = table ≡ table₀
-TableBy false codes kinds m sums letters keys count table₀ table = table ≡ tableAfter codes kinds m sums letters keys count table₀
-
-pub record FilledFrom (codes kinds : List ℕ) (m : ℕ) (sums : List ℤ) (letters rows count₀ : ℕ) (keys₀ : List ℤ) (path₀ table₀ : List ℕ) (keys : List ℤ) (path table : List ℕ)
-    (s : Stand) : Type 0 where
-  pub ended : Ended (machineIn codes kinds m sums letters keys₀) m rows false keys₀ path₀ count₀ keys path s
-  pub table-is : TableBy (s .stopped) codes kinds m sums letters keys (s .count) table₀ table
+-- numbering has ended, and the table is as it was where it has stopped, and else written
+pub record FilledFrom (plan : Plan) (sums : List ℤ) (count₀ : ℕ) (keys₀ : List ℤ) (path₀ table₀ : List ℕ) (keys : List ℤ) (path table : List ℕ) (s : Stand) : Type 0 where
+  pub ended : Ended (machine plan sums keys₀) plan count₀ keys₀ path₀ keys path s
+  pub table-is : table ≡ cond (s .stopped) table₀ (tableAfter plan sums keys (s .count) table₀)
 
 abbrev pub answerBy : Bool → ℕ → BuildAnswer
 answerBy true count = BuildAnswer.NoRoom count
 answerBy false count = BuildAnswer.Built count
 
-module _ {codes kinds : List ℕ} {m : ℕ} {sums : List ℤ} {letters rows : ℕ} {keys : List ℤ} {path table : List ℕ} (f : Filling codes kinds m sums letters rows keys path table) where
-  abbrev M : Machine (List ℤ)
-  M = machineIn codes kinds m sums letters keys
+-- where nothing is noted, any path area has room
+pub path-fits : {noting : Bool} → noting ≡ false → (rows : ℕ) (path : List ℕ) → pathCount noting rows ≤ length path
+path-fits e rows path = subst (λ (b : Bool). pathCount b rows ≤ length path) (sym e) (omega arith)
 
-  pub from-start : Stands (machineIn codes kinds m sums letters keys) m rows false keys path 1 0 0
+module _ {plan : Plan} {sums keys : List ℤ} {path table : List ℕ} (f : Filling plan sums keys path table) where
+  abbrev M : Machine (List ℤ)
+  M = machine plan sums keys
+
+  run : Runs plan sums (take (plan .width) keys) M
+  run = machine-runs plan sums keys
+
+  pub any-path : (other : List ℕ) → Filling plan sums keys other table
+  any-path other = record {
+    task = f .task;
+    notes-none = f .notes-none;
+    tests-none = f .tests-none;
+    ready = record {
+      some-rows = f .ready .some-rows;
+      lent = record { few-rows = f .ready .lent .few-rows; keys-room = f .ready .lent .keys-room; path-room = path-fits (f .notes-none) (plan .rows) other };
+      start-fits = f .ready .start-fits;
+      path-start = λ e. absurd (true≢false (sym e ∙ f .notes-none));
+      refused = f .ready .refused;
+    };
+    table-room = f .table-room;
+  }
+
+  pub from-start : Stands (machine plan sums keys) plan keys path (goingAt 1 0 0)
   from-start =
-      start-stands M (f .ready) (sym (cell-start codes kinds m sums letters (take m keys)))
-      (rw (cell-letters codes kinds m sums letters (take m keys)) (f .task .some-letters)) (f .ready .some-rows) (le-refl rows)
+      start-stands M (f .ready) (sym (run .start-is)) (rw (run .letters-are) (f .task .some-letters)) (f .ready .some-rows) (le-refl (plan .rows))
+
+  lent-after : {keys₁ : List ℤ} {path₁ : List ℕ} → length keys₁ ≡ length keys → Lent plan keys₁ path₁
+  lent-after {path₁ = path₁} same = record {
+    few-rows = f .ready .lent .few-rows;
+    keys-room = omega (arith, f .ready .lent .keys-room);
+    path-room = path-fits (f .notes-none) (plan .rows) path₁;
+  }
 
   -- numbering has ended with so few of the rows, and for want of rows only where they are all
-  ended-by : {few count₀ : ℕ} {keys₁ : List ℤ} {path₁ : List ℕ} {s : Stand} → few ≤ rows → length keys₁ ≡ length keys → Ended M m few false keys path count₀ keys₁ path₁ s
-      → (s .stopped ≡ true → s .accepted ≡ false → few ≡ rows) → Numbered M rows false keys path keys₁ path₁ (exploredBy (s .stopped) (s .accepted) (s .count))
-  ended-by less same e whole =
-      ended-numbered M (cell-lawful codes kinds m sums letters (take m keys)) m rows false keys path (omega (arith, f .ready .keys-room)) (omega arith) less e whole
+  ended-by : {few count₀ : ℕ} {keys₁ : List ℤ} {path₁ : List ℕ} {s : Stand} → few ≤ plan .rows → length keys₁ ≡ length keys
+      → Ended M (withRows plan few) count₀ keys path keys₁ path₁ s → (s .stopped ≡ true → s .accepted ≡ false → few ≡ plan .rows)
+      → Numbered M plan keys path keys₁ path₁ (exploredBy (s .stopped) (s .accepted) s)
+  ended-by less same e whole = ended-numbered M (run .lawful) plan keys path (lent-after same) less e whole
 
   -- where every state has a row, the table can be written
-  module _ {count₀ : ℕ} {keys₁ : List ℤ} {path₁ : List ℕ} {s : Stand} (e : Ended (machineIn codes kinds m sums letters keys) m rows false keys path count₀ keys₁ path₁ s)
+  module _ {count₀ : ℕ} {keys₁ : List ℤ} {path₁ : List ℕ} {s : Stand} (e : Ended (machine plan sums keys) plan count₀ keys path keys₁ path₁ s)
       (same : length keys₁ ≡ length keys) (going : s .stopped ≡ false) where
-    all : AllRows M rows keys keys₁ (s .count)
-    all = all-rows (rw going at (ended-by (le-refl rows) same e (λ _ _. refl)))
+    all : AllRows M (plan .rows) keys keys₁ (s .count)
+    all =
+        all-rows (f .tests-none)
+        (subst (λ (b : Bool). Numbered M plan keys path keys₁ path₁ (exploredBy b (s .accepted) s)) going (ended-by (le-refl (plan .rows)) same e (λ _ _. refl)))
 
-    pub rows-tabled : Tabling codes kinds m sums letters keys₁ (s .count)
-    rows-tabled = tabling kinds (f .task) (f .ready) all
+    pub rows-tabled : Tabling plan sums keys₁ (s .count)
+    rows-tabled = tabling (f .task) (f .ready) all
 
-    pub rows-fit : s .count * (1 + letters) ≤ length table
-    rows-fit = table-fits kinds (f .task) (f .ready) all (1 + letters) (length table) (f .table-room)
+    pub rows-fit : s .count * (1 + plan .letters) ≤ length table
+    rows-fit = table-fits (f .task) (f .ready) all (1 + plan .letters) (length table) (f .table-room)
 
   -- the whole, by how numbering ended
-  written : (b c : Bool) (count : ℕ) {keys₁ : List ℤ} {path₁ table₁ : List ℕ} → Numbered M rows false keys path keys₁ path₁ (exploredBy b c count)
-      → TableBy b codes kinds m sums letters keys₁ count table table₁ → Builds (filled M rows keys table) (answerBy b count) keys₁ table₁
-  written false c count n t = all-built kinds (f .task) (f .ready) (all-rows n) table t
-  written true true count n t = absurd (building-finds-none n)
-  written true false count n t = rw t (no-room table n)
+  written : (b c : Bool) (s : Stand) {keys₁ : List ℤ} {path₁ table₁ : List ℕ} → Numbered M plan keys path keys₁ path₁ (exploredBy b c s)
+      → table₁ ≡ cond b table (tableAfter plan sums keys₁ (s .count) table) → Builds (filled M (plan .rows) keys table) (answerBy b (s .count)) keys₁ table₁
+  written false c s n t = all-built (f .task) (f .ready) (all-rows (f .tests-none) n) table t
+  written true true s n t = absurd (building-finds-none (f .tests-none) n)
+  written true false s n t = rw t (no-room (f .tests-none) table n)
 
   -- ---- few rows first
 
-  module _ {few : ℕ} (less : few ≤ rows) where
-    pub few-filling : 0 < few → Filling codes kinds m sums letters few keys path table
+  module _ {few : ℕ} (less : few ≤ plan .rows) where
+    pub few-filling : 0 < few → Filling (withRows plan few) sums keys path table
     few-filling some = record {
-      task = f .task;
+      task = fewer-task plan few (f .task);
+      notes-none = f .notes-none;
+      tests-none = f .tests-none;
       ready = record {
         some-rows = some;
-        few-rows = omega (arith, f .ready .few-rows);
-        keys-room = omega (arith, mul-le-mul-right m less, f .ready .keys-room);
-        path-room = omega arith;
+        lent = fewer-lent (f .ready .lent) less;
         start-fits = f .ready .start-fits;
         path-start = f .ready .path-start;
         refused = f .ready .refused;
       };
-      table-room = omega (arith, mul-le-mul-right (1 + letters) less, f .table-room);
+      table-room = omega (arith, mul-le-mul-right (1 + plan .letters) less, f .table-room);
     }
 
-    module _ {keys₁ : List ℤ} {path₁ table₁ : List ℕ} {s : Stand} (e : FilledFrom codes kinds m sums letters few 1 keys path table keys₁ path₁ table₁ s)
+    module _ {keys₁ : List ℤ} {path₁ table₁ : List ℕ} {s : Stand} (e : FilledFrom (withRows plan few) sums 1 keys path table keys₁ path₁ table₁ s)
         (same : length keys₁ ≡ length keys) where
       -- they are enough
-      pub few-built : Lacks few rows s false → Builds (filled (machineIn codes kinds m sums letters keys) rows keys table) (answerBy (s .stopped) (s .count)) keys₁ table₁
-      few-built l =
-          written (s .stopped) (s .accepted) (s .count)
-          (ended-by less same (e .ended) (λ p q. let h : rows ≤ few = l .no refl p q in omega arith)) (e .table-is)
+      pub few-built : (s .stopped ≡ true → s .accepted ≡ false → plan .rows ≤ few)
+          → Builds (filled (machine plan sums keys) (plan .rows) keys table) (answerBy (s .stopped) (s .count)) keys₁ table₁
+      few-built enough =
+          written (s .stopped) (s .accepted) s (ended-by less same (e .ended) (λ p q. let h = enough p q in omega (arith, h))) (e .table-is)
 
       -- they are full, and it goes on with all
-      module _ (l : Lacks few rows s true) where
-        full : Stands M m few false keys₁ path₁ (s .count) (s .row) (s .letter)
-        full = let y = l .yes refl in stopped-full (e .ended) (y .0) (y .1) .stands
+      module _ (stopped : s .stopped ≡ true) (refused : s .accepted ≡ false) where
+        full : Stands M (withRows plan few) keys₁ path₁ s
+        full = stopped-full plan (e .ended) stopped refused .stands
 
-        same-start : take m keys₁ ≡ take m keys
-        same-start = full .rows-there .start-is ∙ cell-start codes kinds m sums letters (take m keys)
+        same-start : take (plan .width) keys₁ ≡ take (plan .width) keys
+        same-start = full .rows-there .start-is ∙ run .start-is
 
         same-table : table₁ ≡ table
-        same-table = rw (l .yes refl .0) at (e .table-is)
+        same-table = e .table-is ∙ ap (λ (b : Bool). cond b table (tableAfter plan sums keys₁ (s .count) table)) stopped
 
-        pub many-filling : Filling codes kinds m sums letters rows keys₁ path₁ table₁
+        pub many-filling : Filling plan sums keys₁ path₁ table₁
         many-filling = record {
           task = f .task;
+          notes-none = f .notes-none;
+          tests-none = f .tests-none;
           ready = record {
             some-rows = f .ready .some-rows;
-            few-rows = f .ready .few-rows;
-            keys-room = rw same (f .ready .keys-room);
-            path-room = omega arith;
+            lent = lent-after same;
             start-fits = λ i h.
                 let cell : getD keys₁ i (pos 0) ≡ getD keys i (pos 0) =
-                sym (getD-take m keys₁ i (pos 0) h) ∙ ap (λ (k : List ℤ). getD k i (pos 0)) same-start ∙ getD-take m keys i (pos 0) h in
+                sym (getD-take (plan .width) keys₁ i (pos 0) h)
+                ∙ ap (λ (k : List ℤ). getD k i (pos 0)) same-start
+                ∙ getD-take (plan .width) keys i (pos 0) h in
                 rw cell (f .ready .start-fits i h);
-            path-start = λ d. absurd (true≢false (sym d));
-            refused = λ d. absurd (true≢false (sym d));
+            path-start = λ d. absurd (true≢false (sym d ∙ f .notes-none));
+            refused = λ d. absurd (true≢false (sym d ∙ f .tests-none));
           };
           table-room = rw same-table (f .table-room);
         }
 
-        pub many-stands : Stands (machineIn codes kinds m sums letters keys₁) m rows false keys₁ path₁ (s .count) (s .row) (s .letter)
-        many-stands =
-            rw same-start
-            (more-stands less (record { few-rows = f .ready .few-rows; keys-room = rw same (f .ready .keys-room); path-room = omega arith }) full)
+        pub many-stands : Stands (machine plan sums keys₁) plan keys₁ path₁ (goingAt (s .count) (s .row) (s .letter))
+        many-stands = rw same-start (more-stands less (lent-after same) full)
 
-        pub many-built : {keys₂ : List ℤ} {path₂ table₂ : List ℕ} {t : Stand}
-            → FilledFrom codes kinds m sums letters rows (s .count) keys₁ path₁ table₁ keys₂ path₂ table₂ t → length keys₂ ≡ length keys₁
-            → Builds (filled (machineIn codes kinds m sums letters keys) rows keys table) (answerBy (t .stopped) (t .count)) keys₂ table₂
+        pub many-built : {keys₂ : List ℤ} {path₂ table₂ : List ℕ} {t : Stand} → FilledFrom plan sums (s .count) keys₁ path₁ table₁ keys₂ path₂ table₂ t
+            → length keys₂ ≡ length keys₁ → Builds (filled (machine plan sums keys) (plan .rows) keys table) (answerBy (t .stopped) (t .count)) keys₂ table₂
         many-built {t = t} g kept =
-            written (t .stopped) (t .accepted) (t .count)
-            (ended-by (le-refl rows) (kept ∙ same) (ended-after (e .ended) (rw same-start at (g .ended))) (λ _ _. refl)) (rw same-table at (g .table-is))
+            written (t .stopped) (t .accepted) t
+            (ended-by (le-refl (plan .rows)) (kept ∙ same) (ended-after plan (e .ended) (rw same-start at (g .ended))) (λ _ _. refl))
+            (rw same-table at (g .table-is))

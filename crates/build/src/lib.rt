@@ -1,20 +1,23 @@
 // Building a question's table: its states are numbered first, then every row of the table is written from the key rows.
 use explore::FEW;
 use explore::MANY;
+use explore::Plan;
 use explore::Stand;
-use explore::accepts;
 use explore::least;
+use explore::plan_of;
 use explore::resume;
 use index::NONE;
 use index::find;
+use index::load_row;
 use index::store_row;
 use scope::BuildAnswer;
 use scope::Question;
 use scope::ReadAnswer;
+use scope::letters;
+use step::Kinds;
 use step::SUMS;
 use step::kinds_of;
 use step::letter_sums;
-use step::letters;
 use step::step_row;
 ghost use mathlib.Core.Path.{_≡_};
 ghost use mathlib.Core.Bool.{cond, false};
@@ -24,38 +27,35 @@ ghost use lib.ListN.{length};
 ghost use Rattle.scope.specs.Sizes.{mostStates};
 ghost use Rattle.scope.specs.Building.{builtQuestion, built};
 ghost use Rattle.theory.specs.Accepted.{WithinLimits};
-ghost use Rattle.step.specs.Cells.{stepCells, Stepping};
-ghost use Rattle.index.specs.Index.{Key, Indexed, Finds};
-ghost use Rattle.explore.specs.Standing.{Task, Linked, Stands};
-ghost use Rattle.explore.specs.Outcome.{Ready};
-ghost use Rattle.build.specs.Tabling.{machineIn, Tabling};
+ghost use Rattle.step.specs.Cells.{stepCells};
+ghost use Rattle.index.specs.Index.{Indexed, Finds};
+ghost use Rattle.explore.specs.Machine.{machine};
+ghost use Rattle.explore.specs.Standing.{Linked, Stands, goingAt};
+ghost use Rattle.explore.specs.Loaded.{Steps};
+ghost use Rattle.build.specs.Tabling.{Tabling};
 ghost use Rattle.build.specs.Row.{rowOf};
 ghost use Rattle.build.specs.Table.{tableAfter};
 ghost use Rattle.build.specs.Builds.{Builds, filled};
 ghost use Rattle.build.specs.Filling.{Filling, FilledFrom, answerBy};
 ghost use Rattle.build.specs.Asked.{Lends};
 
-// The row that has the cells to which a letter leads from a row. They are worked in a row that is lent.
+// The row that has the cells to which a letter leads from a row, whose cells are handed over.
 fn next_state(
-    kinds: &[u8; Question::ATOMS],
-    m: usize,
+    plan: Plan,
     sums: &[i32; SUMS],
     letter: usize,
     keys: &[i32],
-    head: &[u16],
-    next: &[u16],
+    links: &[u16],
     count: usize,
-    row: usize,
-    key: &mut [i32; Question::ATOMS],
+    row: [i32; Question::ATOMS],
 ) -> u16
-    requires { ⌜ Indexed (now keys) m (now head) (now next) count ⌝ }
-    requires { ⌜ Stepping m (now sums) letter (now keys) (row * m) ⌝ }
-    requires { ⌜ Key m (now key) ⌝ }
-    ensures { λ r. ⌜ Finds (now (keys .entry)) m (stepCells (now (kinds .entry)) m (now (sums .entry)) letter (now (keys .entry)) (row * m)) count r ⌝ }
-    ensures { λ _. ⌜ Key m (now (key .exit)) ⌝ }
+    requires { ⌜ Indexed (now keys) (plan .width) (now links) count ⌝ }
+    requires { ⌜ Steps plan (now sums) letter row ⌝ }
+    ensures { λ r. ⌜ Finds (now (keys .entry)) (plan .width) (stepCells (plan .kinds) 8 (now (sums .entry)) letter row) count r ⌝ }
 {
-    step_row(kinds, m, sums, letter, keys, row * m, key);
-    find(keys, m, key, head, next, count) as u16
+    let kinds = plan.kinds;
+    let key = step_row(kinds, sums, letter, row);
+    find(keys, plan.width, &key, links, count) as u16
 }
 
 // The first cell of a row.
@@ -65,41 +65,27 @@ fn mark(accepting: bool) -> u16
     if accepting { 1 } else { 0 }
 }
 
-// Writes a row of the table: 1 if the key row accepts else 0, then the next state for each letter in order.
+// Writes a row of the table: 1 if the key row accepts else 0, then the next state for each letter in order. The key row is loaded once for
+// them.
 fn write_row(
     part: &mut [u16],
-    codes: &[u8; Question::NODES],
-    kinds: &[u8; Question::ATOMS],
-    m: usize,
+    plan: Plan,
     sums: &[i32; SUMS],
-    letters: usize,
     keys: &[i32],
-    head: &[u16],
-    next: &[u16],
+    links: &[u16],
     count: usize,
     row: usize,
 )
-    requires { ⌜ Tabling (now codes) (now kinds) m (now sums) letters (now keys) count ⌝ }
-    requires { ⌜ Indexed (now keys) m (now head) (now next) count ⌝ }
-    requires { ⌜ (row < count) × (length (now part) ≡ 1 + letters) ⌝ }
-    ensures { λ _. ⌜ now (part .exit) ≡ rowOf (now (codes .entry)) (now (kinds .entry)) m (now (sums .entry)) letters (now (keys .entry)) count row ⌝ }
+    requires { ⌜ Tabling plan (now sums) (now keys) count ⌝ }
+    requires { ⌜ Indexed (now keys) (plan .width) (now links) count ⌝ }
+    requires { ⌜ (row < count) × (length (now part) ≡ 1 + plan .letters) ⌝ }
+    ensures { λ _. ⌜ now (part .exit) ≡ rowOf plan (now (sums .entry)) (now (keys .entry)) count row ⌝ }
 {
-    part[0] = mark(accepts(codes, kinds, m, keys, row * m));
-    let mut key = [0i32; Question::ATOMS];
+    let from = load_row(keys, plan.width, row);
+    part[0] = mark(plan.accepts(from));
     let mut letter = 0;
-    while letter < letters {
-        part[1 + letter] = next_state(
-            kinds,
-            m,
-            sums,
-            letter,
-            keys,
-            head,
-            next,
-            count,
-            row,
-            &mut key,
-        );
+    while letter < plan.letters {
+        part[1 + letter] = next_state(plan, sums, letter, keys, links, count, from);
         letter += 1;
     }
 }
@@ -107,39 +93,23 @@ fn write_row(
 // Writes every row of the table at its front, each in the part that is lent for it.
 fn write_rows(
     table: &mut [u16],
-    codes: &[u8; Question::NODES],
-    kinds: &[u8; Question::ATOMS],
-    m: usize,
+    plan: Plan,
     sums: &[i32; SUMS],
-    letters: usize,
     keys: &[i32],
-    head: &[u16],
-    next: &[u16],
+    links: &[u16],
     count: usize,
 )
-    requires { ⌜ Tabling (now codes) (now kinds) m (now sums) letters (now keys) count ⌝ }
-    requires { ⌜ Indexed (now keys) m (now head) (now next) count ⌝ }
-    requires { ⌜ count * (1 + letters) ≤ length (now table) ⌝ }
-    ensures { λ _. ⌜ now (table .exit) ≡ tableAfter (now (codes .entry)) (now (kinds .entry)) m (now (sums .entry)) letters (now (keys .entry)) count (now (table .entry)) ⌝ }
+    requires { ⌜ Tabling plan (now sums) (now keys) count ⌝ }
+    requires { ⌜ Indexed (now keys) (plan .width) (now links) count ⌝ }
+    requires { ⌜ count * (1 + plan .letters) ≤ length (now table) ⌝ }
+    ensures { λ _. ⌜ now (table .exit) ≡ tableAfter plan (now (sums .entry)) (now (keys .entry)) count (now (table .entry)) ⌝ }
 {
-    let width = 1 + letters;
+    let width = 1 + plan.letters;
     let mut row = 0;
     while row < count {
         let at = row * width;
         let end = at + width;
-        write_row(
-            &mut table[at..end],
-            codes,
-            kinds,
-            m,
-            sums,
-            letters,
-            keys,
-            head,
-            next,
-            count,
-            row,
-        );
+        write_row(&mut table[at..end], plan, sums, keys, links, count, row);
         row += 1;
     }
 }
@@ -147,132 +117,74 @@ fn write_rows(
 // Numbers the states from where it stands, with an index that has no row yet. If each state has a row then, it writes the table from the same
 // index.
 fn fill_from(
-    codes: &[u8; Question::NODES],
-    kinds: &[u8; Question::ATOMS],
-    m: usize,
+    plan: Plan,
     sums: &[i32; SUMS],
-    letters: usize,
     keys: &mut [i32],
     path: &mut [u16],
     table: &mut [u16],
-    head: &mut [u16],
-    next: &mut [u16],
-    rows: usize,
-    count: usize,
-    row: usize,
-    letter: usize,
+    links: &mut [u16],
+    from: Stand,
 ) -> Stand
-    requires { ⌜ Filling (now codes) (now kinds) m (now sums) letters rows (now keys) (now path) (now table) ⌝ }
-    requires { ⌜ Stands (machineIn (now codes) (now kinds) m (now sums) letters (now keys)) m rows false (now keys) (now path) count row letter ⌝ }
-    requires { ⌜ Linked m rows (now keys) (now head) (now next) 0 ⌝ }
-    ensures { λ r. ⌜ FilledFrom (now (codes .entry)) (now (kinds .entry)) m (now (sums .entry)) letters rows count (now (keys .entry)) (now (path .entry)) (now (table .entry)) (now (keys .exit)) (now (path .exit)) (now (table .exit)) r ⌝ }
+    requires { ⌜ Filling plan (now sums) (now keys) (now path) (now table) ⌝ }
+    requires { ⌜ Stands (machine plan (now sums) (now keys)) plan (now keys) (now path) from ⌝ }
+    requires { ⌜ Linked plan (now keys) (now links) 0 ⌝ }
+    requires { ⌜ from .stopped ≡ false ⌝ }
+    ensures { λ r. ⌜ FilledFrom plan (now (sums .entry)) (from .count) (now (keys .entry)) (now (path .entry)) (now (table .entry)) (now (keys .exit)) (now (path .exit)) (now (table .exit)) r ⌝ }
 {
-    let s = resume(
-        codes,
-        kinds,
-        m,
-        sums,
-        letters,
-        keys,
-        path,
-        head,
-        next,
-        rows,
-        false,
-        count,
-        row,
-        letter,
-    );
+    let s = resume(plan, sums, keys, path, links, from);
     if s.stopped {
         return s;
     }
-    write_rows(
-        table,
-        codes,
-        kinds,
-        m,
-        sums,
-        letters,
-        keys,
-        head,
-        next,
-        s.count,
-    );
+    write_rows(table, plan, sums, keys, links, s.count);
     s
 }
 
 // From the start, with a small index.
 fn fill_few(
-    codes: &[u8; Question::NODES],
-    kinds: &[u8; Question::ATOMS],
-    m: usize,
+    plan: Plan,
     sums: &[i32; SUMS],
-    letters: usize,
     keys: &mut [i32],
     path: &mut [u16],
     table: &mut [u16],
-    rows: usize,
 ) -> Stand
-    requires { ⌜ Filling (now codes) (now kinds) m (now sums) letters rows (now keys) (now path) (now table) ⌝ }
-    requires { ⌜ rows ≤ 256 ⌝ }
-    ensures { λ r. ⌜ FilledFrom (now (codes .entry)) (now (kinds .entry)) m (now (sums .entry)) letters rows 1 (now (keys .entry)) (now (path .entry)) (now (table .entry)) (now (keys .exit)) (now (path .exit)) (now (table .exit)) r ⌝ }
+    requires { ⌜ Filling plan (now sums) (now keys) (now path) (now table) ⌝ }
+    requires { ⌜ plan .rows ≤ 256 ⌝ }
+    ensures { λ r. ⌜ FilledFrom plan (now (sums .entry)) 1 (now (keys .entry)) (now (path .entry)) (now (table .entry)) (now (keys .exit)) (now (path .exit)) (now (table .exit)) r ⌝ }
 {
-    let mut head = [NONE; FEW];
-    let mut next = [NONE; FEW];
+    let mut links = [NONE; 2 * FEW];
     fill_from(
-        codes,
-        kinds,
-        m,
+        plan,
         sums,
-        letters,
         keys,
         path,
         table,
-        &mut head,
-        &mut next,
-        rows,
-        1,
-        0,
-        0,
+        &mut links,
+        Stand::going(1, 0, 0),
     )
 }
 
 // On from where it stands, with a large index.
 fn fill_many(
-    codes: &[u8; Question::NODES],
-    kinds: &[u8; Question::ATOMS],
-    m: usize,
+    plan: Plan,
     sums: &[i32; SUMS],
-    letters: usize,
     keys: &mut [i32],
     path: &mut [u16],
     table: &mut [u16],
-    rows: usize,
-    count: usize,
-    row: usize,
-    letter: usize,
+    s: Stand,
 ) -> Stand
-    requires { ⌜ Filling (now codes) (now kinds) m (now sums) letters rows (now keys) (now path) (now table) ⌝ }
-    requires { ⌜ Stands (machineIn (now codes) (now kinds) m (now sums) letters (now keys)) m rows false (now keys) (now path) count row letter ⌝ }
-    ensures { λ r. ⌜ FilledFrom (now (codes .entry)) (now (kinds .entry)) m (now (sums .entry)) letters rows count (now (keys .entry)) (now (path .entry)) (now (table .entry)) (now (keys .exit)) (now (path .exit)) (now (table .exit)) r ⌝ }
+    requires { ⌜ Filling plan (now sums) (now keys) (now path) (now table) ⌝ }
+    requires { ⌜ Stands (machine plan (now sums) (now keys)) plan (now keys) (now path) (goingAt (s .count) (s .row) (s .letter)) ⌝ }
+    ensures { λ r. ⌜ FilledFrom plan (now (sums .entry)) (s .count) (now (keys .entry)) (now (path .entry)) (now (table .entry)) (now (keys .exit)) (now (path .exit)) (now (table .exit)) r ⌝ }
 {
-    let mut head = [NONE; MANY];
-    let mut next = [NONE; MANY];
+    let mut links = [NONE; 2 * MANY];
     fill_from(
-        codes,
-        kinds,
-        m,
+        plan,
         sums,
-        letters,
         keys,
         path,
         table,
-        &mut head,
-        &mut next,
-        rows,
-        count,
-        row,
-        letter,
+        &mut links,
+        Stand::going(s.count, s.row, s.letter),
     )
 }
 
@@ -288,40 +200,16 @@ fn answer(s: Stand) -> BuildAnswer
 }
 
 // Numbers the states from the start's, which is row 0 already, and writes the table if each of them has a row.
-fn fill(
-    codes: &[u8; Question::NODES],
-    kinds: &[u8; Question::ATOMS],
-    m: usize,
-    sums: &[i32; SUMS],
-    letters: usize,
-    keys: &mut [i32],
-    table: &mut [u16],
-    rows: usize,
-) -> BuildAnswer
-    requires { ⌜ Task (now codes) m (now sums) letters ⌝ }
-    requires { ⌜ Ready (machineIn (now codes) (now kinds) m (now sums) letters (now keys)) m rows false (now keys) [] ⌝ }
-    requires { ⌜ rows * (1 + letters) ≤ length (now table) ⌝ }
-    ensures { λ r. ⌜ Builds (filled (machineIn (now (codes .entry)) (now (kinds .entry)) m (now (sums .entry)) letters (now (keys .entry))) rows (now (keys .entry)) (now (table .entry))) r (now (keys .exit)) (now (table .exit)) ⌝ }
+fn fill(plan: Plan, sums: &[i32; SUMS], keys: &mut [i32], table: &mut [u16]) -> BuildAnswer
+    requires { ⌜ Filling plan (now sums) (now keys) [] (now table) ⌝ }
+    ensures { λ r. ⌜ Builds (filled (machine plan (now (sums .entry)) (now (keys .entry))) (plan .rows) (now (keys .entry)) (now (table .entry))) r (now (keys .exit)) (now (table .exit)) ⌝ }
 {
     // Only deciding has a path area.
     let mut path = [0u16; 1];
-    let few = least(rows, FEW);
-    let s = fill_few(codes, kinds, m, sums, letters, keys, &mut path, table, few);
-    if s.lacks(few, rows) {
-        let t = fill_many(
-            codes,
-            kinds,
-            m,
-            sums,
-            letters,
-            keys,
-            &mut path,
-            table,
-            rows,
-            s.count,
-            s.row,
-            s.letter,
-        );
+    let few = least(plan.rows, FEW);
+    let s = fill_few(plan.with_rows(few), sums, keys, &mut path, table);
+    if s.lacks(few, plan.rows) {
+        let t = fill_many(plan, sums, keys, &mut path, table, s);
         return answer(t);
     }
     answer(s)
@@ -338,23 +226,20 @@ fn room(keys: usize, m: usize, table: usize, width: usize) -> usize
 // Builds the table of a question in so many rows, and its start is row 0.
 fn build_rows(
     question: Question,
-    kinds: &[u8; Question::ATOMS],
-    m: usize,
-    letters: usize,
+    atoms: Kinds,
     rows: usize,
     keys: &mut [i32],
     table: &mut [u16],
 ) -> BuildAnswer
-    requires { ⌜ Lends question (now kinds) m letters rows (now keys) (now table) ⌝ }
+    requires { ⌜ Lends question atoms rows (now keys) (now table) ⌝ }
     ensures { λ r. ⌜ Builds (builtQuestion question (now (keys .entry)) (now (table .entry))) r (now (keys .exit)) (now (table .exit)) ⌝ }
 {
-    let n = question.n as usize;
-    let codes = question.codes;
     let coefficients = question.coefficients;
     let constants = question.constants;
-    let sums = letter_sums(n, m, &coefficients);
-    store_row(keys, m, 0, &constants);
-    fill(&codes, kinds, m, &sums, letters, keys, table, rows)
+    let sums = letter_sums(question.n as usize, atoms.m, &coefficients);
+    let plan = plan_of(question, atoms, &sums, rows, false, false);
+    store_row(keys, plan.width, 0, &constants);
+    fill(plan, &sums, keys, table)
 }
 
 // Builds the table of a question that was accepted.
@@ -364,14 +249,12 @@ fn build_question(question: Question, keys: &mut [i32], table: &mut [u16]) -> Bu
 {
     let codes = question.codes;
     let atoms = kinds_of(&codes);
-    let kinds = atoms.kinds;
-    let m = atoms.m;
     let count = letters(question.n as usize);
-    let rows = room(keys.len(), m, table.len(), 1 + count);
+    let rows = room(keys.len(), atoms.m, table.len(), 1 + count);
     if rows == 0 {
         return BuildAnswer::NoRoom { states: 0 };
     }
-    build_rows(question, &kinds, m, count, rows, keys, table)
+    build_rows(question, atoms, rows, keys, table)
 }
 
 // Builds the table of the question that the bytes say.

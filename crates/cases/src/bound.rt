@@ -1,6 +1,5 @@
 // Document 01's bound on the reachable states.
 ghost use Prim.Native.Nat.{_≤_};
-use crate::formulas::is_atom;
 use crate::plain::Sums;
 use crate::plain::times;
 use crate::plain::weighed;
@@ -11,6 +10,7 @@ use crate::sides::CONSTANT_RIGHT;
 use crate::sides::ROW;
 use crate::sides::row_of;
 use scope::Question;
+use scope::is_atom;
 
 // A bound beyond this is given as this.
 const MOST: u64 = 1_000_000;

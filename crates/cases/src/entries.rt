@@ -1,5 +1,4 @@
 // The cells of a key row by the word that reaches it, in one step: k less the sum, by 2 to the letters.
-use crate::formulas::is_atom;
 use crate::held::signed;
 use crate::plain::Sums;
 use crate::plain::plus;
@@ -7,6 +6,8 @@ use crate::plain::weighed;
 use crate::sides::COLUMNS;
 use crate::sides::row_of;
 use compared::cells_of;
+use scope::Question;
+use scope::is_atom;
 
 // The key cell of an entry that is dead.
 pub const DEAD: i32 = -2_147_483_648;

@@ -3,6 +3,7 @@ ghost use Prim.Native.Nat.{_≤_};
 ghost use lib.ListN.{length};
 use crate::chance::roll;
 use scope::Question;
+use scope::is_atom;
 
 // The nots of a formula at most: under these and its ands and ors, one fewer than its atoms, no part is too deep.
 const NOTS: usize = Question::DEPTH - Question::ATOMS;
@@ -12,10 +13,6 @@ struct Parts {
     due: usize,
     atoms: usize,
     nots: usize,
-}
-
-pub fn is_atom(code: u8) -> bool {
-    code == 1 || code == 2
 }
 
 fn less(x: usize) -> usize {

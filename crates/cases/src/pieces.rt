@@ -1,7 +1,6 @@
 // Whether a word of any length satisfies a question: it is spelled in pieces of 32 letters, which are the digits of its values to
 // base 2^32, and both sides of every atom are summed digit by digit.
 ghost use Prim.Native.Nat.{_≤_, _<_};
-use crate::formulas::is_atom;
 use crate::plain::Sums;
 use crate::plain::Worths;
 use crate::plain::holds;
@@ -15,6 +14,8 @@ use crate::sides::ROW;
 use crate::sides::row_of;
 use crate::spelled::stretch;
 use crate::spelled::values_of;
+use scope::Question;
+use scope::is_atom;
 
 // The letters of a piece.
 const PIECE: usize = 32;

@@ -1,10 +1,10 @@
 // Whether values satisfy a question, in another way than the judge: every term is added on the side where it has no sign, and
 // the formula is settled from its last node to its first.
-use crate::formulas::is_atom;
 use crate::sides::COLUMNS;
 use crate::sides::ROW;
 use crate::sides::row_of;
 use scope::Question;
+use scope::is_atom;
 
 pub struct Sums {
     pub left: u64,

@@ -10,6 +10,7 @@ use crate::held::same_question;
 use crate::sides::CELLS;
 use crate::sides::draw_numbers;
 use crate::spelled::stretch;
+use crate::tabling::Case;
 use crate::tabling::compare_built;
 use crate::tally;
 use crate::tally::add;
@@ -61,7 +62,8 @@ fn compare(
     let few = roll(seed, 30);
     compare_again(number, m, bytes, told, few, counts);
     let found = stretch(&word, 0, told.letters);
-    compare_built(number, codes, sides, n, m, bytes, found, told, seed, counts);
+    let case = Case { number, n, m };
+    compare_built(case, codes, sides, bytes, found, told, seed, counts);
     let same = large_tuple(codes, sides, n, bytes, seed);
     expect(same, number, b"judged by large values", counts);
 }

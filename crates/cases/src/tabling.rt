@@ -55,18 +55,26 @@ fn same_again(bytes: &[u8], n: usize, m: usize, made: Made) -> bool {
     same_in(bytes, n, m, states, made) && same_in(bytes, n, m, states - 1, made)
 }
 
+// The number of a question, its variables and its atoms.
+pub struct Case {
+    pub number: u64,
+    pub n: usize,
+    pub m: usize,
+}
+
 // Runs a built table on words.
 fn compare_table(
-    number: u64,
+    case: Case,
     codes: &[u8],
     sides: &[u64],
-    n: usize,
     table: &[u16],
     found: &[u8],
     told: Told,
     seed: &mut u64,
     counts: &mut [u64],
 ) {
+    let number = case.number;
+    let n = case.n;
     compare_runs(number, run_short(codes, sides, n, table), counts);
     compare_runs(number, run_long(codes, sides, n, table, seed), counts);
     let yes = told.verdict != 1 || table_says(n, table, found, true);
@@ -74,25 +82,25 @@ fn compare_table(
 }
 
 pub fn compare_built(
-    number: u64,
+    case: Case,
     codes: &[u8],
     sides: &[u64],
-    n: usize,
-    m: usize,
     bytes: &[u8],
     found: &[u8],
     told: Told,
     seed: &mut u64,
     counts: &mut [u64],
 ) {
+    let n = case.n;
+    let m = case.m;
     let mut table = [CELL_MARK; TABLE];
     let formed = build_and_look(codes, sides, bytes, n, m, &mut table);
     let made = formed.made;
     let right = fits(made, told, bound_of(codes, sides));
     let same = same_again(bytes, n, m, made);
-    say_built(number, formed, right, same, counts);
+    say_built(case.number, formed, right, same, counts);
     if made.built {
         let rows = front(&table, cells_of(made.states, width_of(n)));
-        compare_table(number, codes, sides, n, rows, found, told, seed, counts);
+        compare_table(case, codes, sides, rows, found, told, seed, counts);
     }
 }

@@ -12,35 +12,30 @@ use Rattle.scope.specs.Question.{atomCount}
 use Rattle.scope.specs.Deciding.{decideRoom}
 use Rattle.theory.specs.Answers.{atom-count}
 use Rattle.theory.specs.Accepted.{WithinLimits}
+use Rattle.step.specs.declared.Kinds.{Kinds}
 use Rattle.step.specs.Eight.{padded}
 use Rattle.step.specs.Cells.{kindCodes, Coefficients}
 use Rattle.step.specs.Atoms.{kinds-count, few-atoms, coefficients-fit}
 
--- a question by its parts
-abbrev pub heldQuestion : ℕ → List ℕ → List ℤ → List ℤ → Question
-heldQuestion n codes coefficients constants = record { n = n; codes = codes; coefficients = coefficients; constants = constants }
-
--- what exploring asks
-pub record Lends (q : Question) (kinds : List ℕ) (m rows : ℕ) (keys : List ℤ) (path : List ℕ) : Type 0 where
+-- what deciding in so many rows asks
+pub record Lends (q : Question) (atoms : Kinds) (rows : ℕ) (keys : List ℤ) (path : List ℕ) : Type 0 where
   pub limits : WithinLimits q
-  pub kinds-are : kinds ≡ padded 0 (kindCodes (q .codes))
-  pub count : m ≡ atomCount q
+  pub kinds-are : atoms .kinds ≡ padded 0 (kindCodes (q .codes))
+  pub count : atoms .m ≡ atomCount q
+  pub rows-are : rows ≡ decideRoom q keys path
   pub some-rows : 0 < rows
   pub few-rows : rows ≤ 65535
-  pub keys-room : rows * m ≤ length keys
+  pub keys-room : rows * atomCount q ≤ length keys
   pub path-room : 2 * rows ≤ length path
 
-module _ {q : Question} {kinds : List ℕ} {m rows : ℕ} {keys₀ : List ℤ} {path₀ : List ℕ} (ask : Lends q kinds m rows keys₀ path₀) where
-  pub atoms-few : m ≤ 8
-  atoms-few = rw (ask .count) (few-atoms (ask .limits))
+module _ {q : Question} {atoms : Kinds} {rows : ℕ} {keys₀ : List ℤ} {path₀ : List ℕ} (ask : Lends q atoms rows keys₀ path₀) where
+  pub constants-long : atomCount q ≤ length (q .constants)
+  constants-long = omega (arith, few-atoms (ask .limits), ask .limits .sized .constants)
 
-  pub constants-long : m ≤ length (q .constants)
-  constants-long = omega (arith, atoms-few, ask .limits .sized .constants)
+  pub keys-long : atomCount q ≤ length keys₀
+  keys-long = omega (arith, rw one-mul at (mul-le-mul-right (atomCount q) (ask .some-rows)), ask .keys-room)
 
-  pub keys-long : m ≤ length keys₀
-  keys-long = omega (arith, rw one-mul at (mul-le-mul-right m (ask .some-rows)), ask .keys-room)
-
-  pub sums-asked : Coefficients (q .n) m (q .coefficients)
+  pub sums-asked : Coefficients (q .n) (atoms .m) (q .coefficients)
   sums-asked = rw (ask .count) (coefficients-fit (ask .limits))
 
 -- ---- R
@@ -57,13 +52,14 @@ module _ {q : Question} (w : WithinLimits q) {m : ℕ} (counts : m ≡ length (k
     unfolding decideRoom
     room-is = rw (← count-is) least
 
-    pub lends : {kinds : List ℕ} → kinds ≡ padded 0 (kindCodes (q .codes)) → ¬ (rows ≡ 0) → Lends q kinds m rows keys path
+    pub lends : {kinds : List ℕ} → kinds ≡ padded 0 (kindCodes (q .codes)) → ¬ (rows ≡ 0) → Lends q (record { kinds = kinds; m = m }) rows keys path
     lends k some = record {
       limits = w;
       kinds-are = k;
       count = count-is;
+      rows-are = room-is;
       some-rows = omega arith;
       few-rows = omega arith;
-      keys-room = let h : rows ≤ length keys / m = omega arith in omega (arith, mul-le-mul-right m h, div-mul-le-self (length keys) m);
+      keys-room = rw (← count-is) (let h : rows ≤ length keys / m = omega arith in omega (arith, mul-le-mul-right m h, div-mul-le-self (length keys) m));
       path-room = omega arith;
     }

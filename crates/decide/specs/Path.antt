@@ -82,7 +82,7 @@ module _ {path : List ℕ} {state : ℕ} (k : Linked path state) where
 
 -- ---- the last letter of a word stored in a buffer that gets the letters before it at its front
 
-last-stored : (w : Word) (a : ℕ) (buffer : List ℕ) → length w < length buffer → atFront w (set buffer (length w) a) ≡ atFront (w ▹ a) buffer
+pub last-stored : (w : Word) (a : ℕ) (buffer : List ℕ) → length w < length buffer → atFront w (set buffer (length w) a) ≡ atFront (w ▹ a) buffer
 unfolding atFront
 last-stored w a buffer h =
     let i : length w < length (set buffer (length w) a) = rw length-set h in

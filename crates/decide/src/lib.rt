@@ -1,15 +1,15 @@
 // Deciding a question: the first word that its machine accepts, or that there is none, or that the areas lent have no room to tell.
 use explore::Explored;
-use explore::accepts;
 use explore::least;
 use explore::number_rows;
+use explore::plan_of;
 use index::store_row;
 use scope::DecideAnswer;
 use scope::Question;
 use scope::ReadAnswer;
+use step::Kinds;
 use step::kinds_of;
 use step::letter_sums;
-use step::letters;
 ghost use mathlib.Core.Path.{_≡_};
 ghost use Prim.Native.Nat.{_/_, _≤_, _<_, min};
 ghost use lib.ListN.{length};
@@ -18,25 +18,24 @@ ghost use Rattle.scope.specs.Sizes.{mostStates};
 ghost use Rattle.scope.specs.Deciding.{decidedQuestion, decided};
 ghost use Rattle.theory.specs.Accepted.{WithinLimits};
 ghost use Rattle.decide.specs.Decides.{Decides, Answers, Spelt, SpeltIf};
-ghost use Rattle.decide.specs.Explores.{Explores};
-ghost use Rattle.decide.specs.Lends.{heldQuestion, Lends};
+ghost use Rattle.decide.specs.Lends.{Lends};
 ghost use Rattle.decide.specs.Path.{pathWord, Linked};
 ghost use Rattle.decide.specs.Start.{StartPut};
 
 // R: how many rows are lent.
-fn room(keys: usize, path: usize, m: usize) -> usize
-    requires { ⌜ 0 < m ⌝ }
-    ensures { λ r. ⌜ r ≡ min (min (keys / m) (path / 2)) mostStates ⌝ }
+fn room(keys: usize, path: usize, width: usize) -> usize
+    requires { ⌜ 0 < width ⌝ }
+    ensures { λ r. ⌜ r ≡ min (min (keys / width) (path / 2)) mostStates ⌝ }
 {
-    least(least(keys / m, path / 2), Question::STATES)
+    least(least(keys / width, path / 2), Question::STATES)
 }
 
 // The start as row 0.
-fn put_start(constants: &[i32; Question::ATOMS], m: usize, keys: &mut [i32], path: &mut [u16])
-    requires { ⌜ (m ≤ 8) × (m ≤ length (now constants)) × (m ≤ length (now keys)) × (2 ≤ length (now path)) ⌝ }
-    ensures { λ _. ⌜ StartPut (now (constants .entry)) m (now (keys .entry)) (now (keys .exit)) (now (path .entry)) (now (path .exit)) ⌝ }
+fn put_start(constants: &[i32; Question::ATOMS], width: usize, keys: &mut [i32], path: &mut [u16])
+    requires { ⌜ (width ≤ 8) × (width ≤ length (now constants)) × (width ≤ length (now keys)) × (2 ≤ length (now path)) ⌝ }
+    ensures { λ _. ⌜ StartPut (now (constants .entry)) width (now (keys .entry)) (now (keys .exit)) (now (path .entry)) (now (path .exit)) ⌝ }
 {
-    store_row(keys, m, 0, constants);
+    store_row(keys, width, 0, constants);
     path[0] = 0;
     path[1] = 0;
 }
@@ -70,16 +69,18 @@ fn write_word(path: &[u16], state: usize, letters: usize, word: &mut [u8])
     }
 }
 
-// The answer where the last of so many states accepts: its word, if the buffer has room for it.
-fn found(path: &[u16], states: usize, word: &mut [u8]) -> DecideAnswer
-    requires { ⌜ Spelt (now path) states ⌝ }
-    ensures { λ r. ⌜ Answers (Explored.Found states) (now (path .entry)) (now (word .entry)) (now (word .exit)) r ⌝ }
+// The answer where the last of so many states accepts, to which a letter of a row leads: its word, if the buffer has room for it.
+fn found(path: &[u16], states: usize, row: usize, letter: usize, word: &mut [u8]) -> DecideAnswer
+    requires { ⌜ Spelt (now path) row letter ⌝ }
+    ensures { λ r. ⌜ Answers (Explored.Found states row letter) (now (path .entry)) (now (word .entry)) (now (word .exit)) r ⌝ }
 {
-    let letters = word_length(path, states - 1);
+    let before = word_length(path, row);
+    let letters = before + 1;
     if word.len() < letters {
         return DecideAnswer::Short { states, letters };
     }
-    write_word(path, states - 1, letters, word);
+    word[before] = letter as u8;
+    write_word(path, row, before, word);
     DecideAnswer::Found { states, letters }
 }
 
@@ -89,67 +90,60 @@ fn answer(explored: Explored, path: &[u16], word: &mut [u8]) -> DecideAnswer
     ensures { λ r. ⌜ Answers explored (now (path .entry)) (now (word .entry)) (now (word .exit)) r ⌝ }
 {
     match explored {
-        Explored::Found { states } => found(path, states, word),
+        Explored::Found {
+            states,
+            row,
+            letter,
+        } => found(path, states, row, letter, word),
         Explored::All { states } => DecideAnswer::Never { states },
         Explored::NoRoom { states } => DecideAnswer::NoRoom { states },
     }
 }
 
-// Numbers a question's rows from its start on, until one accepts.
-fn explore_question(
-    n: usize,
-    codes: &[u8; Question::NODES],
-    coefficients: &[i32; Question::COEFFICIENTS],
-    constants: &[i32; Question::ATOMS],
-    kinds: &[u8; Question::ATOMS],
-    m: usize,
+// Decides an accepted question in so many rows, of which there are some. The start's word has no letter.
+fn decide_rows(
+    question: Question,
+    atoms: Kinds,
     rows: usize,
-    keys: &mut [i32],
-    path: &mut [u16],
-) -> Explored
-    requires { ⌜ Lends (heldQuestion n (now codes) (now coefficients) (now constants)) (now kinds) m rows (now keys) (now path) ⌝ }
-    ensures { λ r. ⌜ Explores (heldQuestion n (now (codes .entry)) (now (coefficients .entry)) (now (constants .entry))) rows (now (keys .entry)) (now (path .entry)) (now (keys .exit)) (now (path .exit)) r ⌝ }
-{
-    let sums = letter_sums(n, m, coefficients);
-    put_start(constants, m, keys, path);
-    if accepts(codes, kinds, m, keys, 0) {
-        return Explored::Found { states: 1 };
-    }
-    number_rows(codes, kinds, m, &sums, letters(n), keys, path, rows)
-}
-
-// Decides a question that was accepted, which is handed over by its parts.
-fn decide_question(
-    n: usize,
-    codes: &[u8; Question::NODES],
-    coefficients: &[i32; Question::COEFFICIENTS],
-    constants: &[i32; Question::ATOMS],
     keys: &mut [i32],
     path: &mut [u16],
     word: &mut [u8],
 ) -> DecideAnswer
-    requires { ⌜ WithinLimits (heldQuestion n (now codes) (now coefficients) (now constants)) ⌝ }
-    ensures { λ r. ⌜ Decides (decidedQuestion (heldQuestion n (now (codes .entry)) (now (coefficients .entry)) (now (constants .entry))) (now (keys .entry)) (now (path .entry)) (now (word .entry))) r (now (keys .exit)) (now (path .exit)) (now (word .exit)) ⌝ }
+    requires { ⌜ Lends question atoms rows (now keys) (now path) ⌝ }
+    ensures { λ r. ⌜ Decides (decidedQuestion question (now (keys .entry)) (now (path .entry)) (now (word .entry))) r (now (keys .exit)) (now (path .exit)) (now (word .exit)) ⌝ }
 {
-    let atoms = kinds_of(codes);
-    let kinds = atoms.kinds;
-    let m = atoms.m;
-    let rows = room(keys.len(), path.len(), m);
+    let coefficients = question.coefficients;
+    let constants = question.constants;
+    let sums = letter_sums(question.n as usize, atoms.m, &coefficients);
+    let plan = plan_of(question, atoms, &sums, rows, true, true);
+    put_start(&constants, plan.width, keys, path);
+    if plan.accepts(constants) {
+        return DecideAnswer::Found {
+            states: 1,
+            letters: 0,
+        };
+    }
+    let explored = number_rows(plan, &sums, keys, path);
+    answer(explored, path, word)
+}
+
+// Decides a question that was accepted.
+fn decide_question(
+    question: Question,
+    keys: &mut [i32],
+    path: &mut [u16],
+    word: &mut [u8],
+) -> DecideAnswer
+    requires { ⌜ WithinLimits question ⌝ }
+    ensures { λ r. ⌜ Decides (decidedQuestion question (now (keys .entry)) (now (path .entry)) (now (word .entry))) r (now (keys .exit)) (now (path .exit)) (now (word .exit)) ⌝ }
+{
+    let codes = question.codes;
+    let atoms = kinds_of(&codes);
+    let rows = room(keys.len(), path.len(), atoms.m);
     if rows == 0 {
         return DecideAnswer::NoRoom { states: 0 };
     }
-    let explored = explore_question(
-        n,
-        codes,
-        coefficients,
-        constants,
-        &kinds,
-        m,
-        rows,
-        keys,
-        path,
-    );
-    answer(explored, path, word)
+    decide_rows(question, atoms, rows, keys, path, word)
 }
 
 // Decides the question that the bytes say.
@@ -162,9 +156,5 @@ pub fn decide(bytes: &[u8], keys: &mut [i32], path: &mut [u16], word: &mut [u8])
         return DecideAnswer::Refused(refusal);
     }
     let question = held.question;
-    let n = question.n as usize;
-    let codes = question.codes;
-    let coefficients = question.coefficients;
-    let constants = question.constants;
-    decide_question(n, &codes, &coefficients, &constants, keys, path, word)
+    decide_question(question, keys, path, word)
 }

@@ -1,5 +1,6 @@
--- Laws that the proofs of the loop cite.
-pub mod Cells
+-- Laws that the proofs cite.
 pub mod Steps
+pub mod Skipping
 pub mod Trying
 pub mod Going
+pub mod Freshness

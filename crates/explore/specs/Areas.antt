@@ -1,6 +1,6 @@
 -- The key area and the path area: that rows stand at their fronts, that what comes after is as it was, and what one row more does.
 -- Building has no path area: what is said of the path then says that it is unchanged.
-use Prim.Native.Nat.{ℕ, zero, suc, _+_, _-_, _*_, _≤_, _<_}
+use Prim.Native.Nat.{ℕ, suc, _+_, _-_, _*_, _≤_, _<_}
 use mathlib.Core.Path.{_≡_, refl, sym, ap, _∙_}
 use mathlib.Core.Bool.{Bool, true, false}
 use mathlib.Core.List.{List, [], _∷_, _++_, map, map-append, append-assoc, append-nil}
@@ -12,7 +12,7 @@ use lib.Seq.{take-suc-set, drop-set-lt, length-take-le, drop-drop, drop-at, take
 use lib.IntN.{ℤ}
 use Rattle.scope.specs.Whole.{joined, atFront}
 use Rattle.scope.specs.Numbering.{Machine, Row, Rows, startRow, row}
-use Rattle.theory.specs.Simulation.{AllGood, good-[], good-∷}
+use Rattle.theory.specs.Simulation.{AllGood, good-at}
 use Rattle.theory.specs.Joined.{joined-length, joined-append}
 use Rattle.index.specs.Rows.{rowAt, filled-row}
 use Rattle.explore.specs.Machine.{KeyRow}
@@ -37,15 +37,15 @@ pathWith true path count from letter = set (set path (2 * count) from) (2 * coun
 pathWith false path count from letter = path
 
 -- the rows l stand at the fronts
-pub record Held (m : ℕ) (deciding : Bool) (l : Rows (List ℤ)) (count : ℕ) (keys : List ℤ) (path : List ℕ) : Type 0 where
+pub record Held (width : ℕ) (noting : Bool) (l : Rows (List ℤ)) (count : ℕ) (keys : List ℤ) (path : List ℕ) : Type 0 where
   pub count-is : length l ≡ count
-  pub keys-hold : take (count * m) keys ≡ rowCells l
-  pub path-holds : take (pathCount deciding count) path ≡ pathRows deciding l
+  pub keys-hold : take (count * width) keys ≡ rowCells l
+  pub path-holds : take (pathCount noting count) path ≡ pathRows noting l
 
 -- behind count rows the areas are as they were
-pub record Kept (m : ℕ) (deciding : Bool) (count : ℕ) (keys₀ : List ℤ) (path₀ : List ℕ) (keys : List ℤ) (path : List ℕ) : Type 0 where
-  pub keys-rest : drop (count * m) keys ≡ drop (count * m) keys₀
-  pub path-rest : drop (pathCount deciding count) path ≡ drop (pathCount deciding count) path₀
+pub record Kept (width : ℕ) (noting : Bool) (count : ℕ) (keys₀ : List ℤ) (path₀ : List ℕ) (keys : List ℤ) (path : List ℕ) : Type 0 where
+  pub keys-rest : drop (count * width) keys ≡ drop (count * width) keys₀
+  pub path-rest : drop (pathCount noting count) path ≡ drop (pathCount noting count) path₀
 
 -- ---- both together: the rows at the front of what was there
 
@@ -73,45 +73,43 @@ module _ {A : Type 0} where
       let d : b ≡ a + (b - a) = omega arith in
       rw d (sym (drop-drop (b - a) a new) ∙ ap (drop (b - a)) e ∙ drop-drop (b - a) a old)
 
-pub kept-refl : (m : ℕ) (deciding : Bool) (count : ℕ) (keys : List ℤ) (path : List ℕ) → Kept m deciding count keys path keys path
-kept-refl m deciding count keys path = record { keys-rest = refl; path-rest = refl }
+pub kept-refl : (width : ℕ) (noting : Bool) (count : ℕ) (keys : List ℤ) (path : List ℕ) → Kept width noting count keys path keys path
+kept-refl width noting count keys path = record { keys-rest = refl; path-rest = refl }
 
-pub path-count-le : (deciding : Bool) (a b : ℕ) → a ≤ b → pathCount deciding a ≤ pathCount deciding b
+pub path-count-le : (noting : Bool) (a b : ℕ) → a ≤ b → pathCount noting a ≤ pathCount noting b
 path-count-le true a b h = omega arith
 path-count-le false a b h = omega arith
 
-pub kept-trans : {m : ℕ} {deciding : Bool} (a b : ℕ) {keys₀ keys keys′ : List ℤ} {path₀ path path′ : List ℕ} → a ≤ b
-    → Kept m deciding a keys₀ path₀ keys path → Kept m deciding b keys path keys′ path′ → Kept m deciding b keys₀ path₀ keys′ path′
-kept-trans {m} {deciding} a b {keys₀} {keys} {path₀ = path₀} {path} h k k′ = record {
-  keys-rest = k′ .keys-rest ∙ drop-on keys₀ keys (a * m) (b * m) (mul-le-mul-right m h) (k .keys-rest);
-  path-rest = k′ .path-rest ∙ drop-on path₀ path (pathCount deciding a) (pathCount deciding b) (path-count-le deciding a b h) (k .path-rest);
+pub kept-trans : {width : ℕ} {noting : Bool} (a b : ℕ) {keys₀ keys keys′ : List ℤ} {path₀ path path′ : List ℕ} → a ≤ b
+    → Kept width noting a keys₀ path₀ keys path → Kept width noting b keys path keys′ path′ → Kept width noting b keys₀ path₀ keys′ path′
+kept-trans {width} {noting} a b {keys₀} {keys} {path₀ = path₀} {path} h k k′ = record {
+  keys-rest = k′ .keys-rest ∙ drop-on keys₀ keys (a * width) (b * width) (mul-le-mul-right width h) (k .keys-rest);
+  path-rest = k′ .path-rest ∙ drop-on path₀ path (pathCount noting a) (pathCount noting b) (path-count-le noting a b h) (k .path-rest);
 }
 
-module _ {m : ℕ} {deciding : Bool} {l : Rows (List ℤ)} {count : ℕ} {keys₀ keys : List ℤ} {path₀ path : List ℕ}
-    (held : Held m deciding l count keys path) where
-  pub keys-front : count * m ≤ length keys → Kept m deciding count keys₀ path₀ keys path → keys ≡ atFront (rowCells l) keys₀
-  keys-front room k = front-is keys₀ (count * m) room (held .keys-hold) (k .keys-rest)
+module _ {width : ℕ} {noting : Bool} {l : Rows (List ℤ)} {count : ℕ} {keys₀ keys : List ℤ} {path₀ path : List ℕ}
+    (held : Held width noting l count keys path) where
+  pub keys-front : count * width ≤ length keys → Kept width noting count keys₀ path₀ keys path → keys ≡ atFront (rowCells l) keys₀
+  keys-front room k = front-is keys₀ (count * width) room (held .keys-hold) (k .keys-rest)
 
-  pub path-front : pathCount deciding count ≤ length path → Kept m deciding count keys₀ path₀ keys path → path ≡ atFront (pathRows deciding l) path₀
-  path-front room k = front-is path₀ (pathCount deciding count) room (held .path-holds) (k .path-rest)
+  pub path-front : pathCount noting count ≤ length path → Kept width noting count keys₀ path₀ keys path → path ≡ atFront (pathRows noting l) path₀
+  path-front room k = front-is path₀ (pathCount noting count) room (held .path-holds) (k .path-rest)
 
 -- ---- a row of the key area is a row's state
 
-wide : (M : Machine (List ℤ)) (m : ℕ) {l : Rows (List ℤ)} → AllGood (KeyRow m) l → (t : ℕ) → t < length l → length (row M l t .state) ≡ m
-wide M m good-[] t h = absurd (omega arith)
-wide M m (good-∷ k ks) zero h = k .width
-wide M m (good-∷ k ks) (suc t) h = wide M m ks t (omega arith)
+wide : (M : Machine (List ℤ)) (width : ℕ) {l : Rows (List ℤ)} → AllGood (KeyRow width) l → (t : ℕ) → t < length l → length (row M l t .state) ≡ width
+wide M width ok t h = good-at M ok t h .size
 
-pub held-row : (M : Machine (List ℤ)) (m : ℕ) {deciding : Bool} {l : Rows (List ℤ)} {count : ℕ} {keys : List ℤ} {path : List ℕ}
-    → Held m deciding l count keys path → AllGood (KeyRow m) l → (t : ℕ) → t < count → rowAt keys m t ≡ row M l t .state
+pub held-row : (M : Machine (List ℤ)) (width : ℕ) {noting : Bool} {l : Rows (List ℤ)} {count : ℕ} {keys : List ℤ} {path : List ℕ}
+    → Held width noting l count keys path → AllGood (KeyRow width) l → (t : ℕ) → t < count → rowAt keys width t ≡ row M l t .state
 unfolding rowCells
-held-row M m {l = l} {count} {keys} held ok t h =
-    let e : take (count * m) keys ≡ joined (map (λ (r : Row (List ℤ)). r .state) l) = held .keys-hold in
-    let n : length (joined (map (λ (r : Row (List ℤ)). r .state) l)) ≡ count * m =
-    rw (held .count-is) at (joined-length (λ (r : Row (List ℤ)). r .state) m (startRow M) l (wide M m ok)) in
-    let room : count * m ≤ length keys = omega (arith, length-take (count * m) keys, ap length e) in
-    ap (λ (k : List ℤ). rowAt k m t) (front-is keys (count * m) room e refl)
-    ∙ filled-row (λ (r : Row (List ℤ)). r .state) m (startRow M) l keys t (wide M m ok) (omega (arith, held .count-is))
+held-row M width {l = l} {count} {keys} held ok t h =
+    let e : take (count * width) keys ≡ joined (map (λ (r : Row (List ℤ)). r .state) l) = held .keys-hold in
+    let n : length (joined (map (λ (r : Row (List ℤ)). r .state) l)) ≡ count * width =
+    rw (held .count-is) at (joined-length (λ (r : Row (List ℤ)). r .state) width (startRow M) l (wide M width ok)) in
+    let room : count * width ≤ length keys = omega (arith, length-take (count * width) keys, ap length e) in
+    ap (λ (k : List ℤ). rowAt k width t) (front-is keys (count * width) room e refl)
+    ∙ filled-row (λ (r : Row (List ℤ)). r .state) width (startRow M) l keys t (wide M width ok) (omega (arith, held .count-is))
 
 -- ---- one row more
 
@@ -139,42 +137,42 @@ module _ (path : List ℕ) (count from letter : ℕ) (room : 2 * (count + 1) ≤
       drop-set-lt (2 * (count + 1)) (set path (2 * count) from) (2 * count + 1) letter (omega arith)
       ∙ drop-set-lt (2 * (count + 1)) path (2 * count) from (omega arith)
 
--- the key's first m cells are row count of the key area and, deciding, `from` and `letter` its path cells; nothing else has changed
-pub record Stored (m : ℕ) (deciding : Bool) (count : ℕ) (key : List ℤ) (from letter : ℕ) (keys : List ℤ) (path : List ℕ) (keys′ : List ℤ) (path′ : List ℕ) : Type 0 where
-  pub keys-are : keys′ ≡ paste keys (count * m) key m
-  pub path-is : path′ ≡ pathWith deciding path count from letter
+-- the key's first width cells are row count of the key area and, noting, `from` and `letter` its path cells; nothing else has changed
+pub record Stored (width : ℕ) (noting : Bool) (count : ℕ) (key : List ℤ) (from letter : ℕ) (keys : List ℤ) (path : List ℕ) (keys′ : List ℤ) (path′ : List ℕ) : Type 0 where
+  pub keys-are : keys′ ≡ paste keys (count * width) key width
+  pub path-is : path′ ≡ pathWith noting path count from letter
 
 -- there is room for them
-pub record RowRoom (m : ℕ) (deciding : Bool) (count : ℕ) (key keys : List ℤ) (path : List ℕ) : Type 0 where
-  pub long : m ≤ length key
-  pub keys-room : count * m + m ≤ length keys
-  pub path-room : pathCount deciding (count + 1) ≤ length path
+pub record RowRoom (width : ℕ) (noting : Bool) (count : ℕ) (key keys : List ℤ) (path : List ℕ) : Type 0 where
+  pub long : width ≤ length key
+  pub keys-room : count * width + width ≤ length keys
+  pub path-room : pathCount noting (count + 1) ≤ length path
 
-module _ {m : ℕ} {deciding : Bool} {count : ℕ} {key : List ℤ} {from letter : ℕ} {keys : List ℤ} {path : List ℕ} {keys′ : List ℤ} {path′ : List ℕ}
-    (room : RowRoom m deciding count key keys path) (s : Stored m deciding count key from letter keys path keys′ path′) where
-  next-cells : (count + 1) * m ≡ count * m + m
+module _ {width : ℕ} {noting : Bool} {count : ℕ} {key : List ℤ} {from letter : ℕ} {keys : List ℤ} {path : List ℕ} {keys′ : List ℤ} {path′ : List ℕ}
+    (room : RowRoom width noting count key keys path) (s : Stored width noting count key from letter keys path keys′ path′) where
+  next-cells : (count + 1) * width ≡ count * width + width
   next-cells = rw (add-one, suc-mul)
 
-  pub held-more : {l : Rows (List ℤ)} → Held m deciding l count keys path
-      → Held m deciding (l ++ (record { state = take m key; from = from; letter = letter } ∷ [])) (count + 1) keys′ path′
+  pub held-more : {l : Rows (List ℤ)} → Held width noting l count keys path
+      → Held width noting (l ++ (record { state = take width key; from = from; letter = letter } ∷ [])) (count + 1) keys′ path′
   unfolding pathRows
   held-more {l} held = record {
     count-is = simp length-append (omega (arith, held .count-is));
     keys-hold =
         rw (s .keys-are, next-cells)
-        (take-paste keys (count * m) key m (omega arith) (room .long) ∙ ap (λ (k : List ℤ). k ++ take m key) (held .keys-hold) ∙ sym (row-more l _));
-    path-holds = rw (s .path-is) (go deciding (room .path-room) (held .path-holds));
+        (take-paste keys (count * width) key width (omega arith) (room .long) ∙ ap (λ (k : List ℤ). k ++ take width key) (held .keys-hold) ∙ sym (row-more l _));
+    path-holds = rw (s .path-is) (go noting (room .path-room) (held .path-holds));
   }
     where
       go : (d : Bool) → pathCount d (count + 1) ≤ length path → take (pathCount d count) path ≡ pathRows d l
-          → take (pathCount d (count + 1)) (pathWith d path count from letter) ≡ pathRows d (l ++ (record { state = take m key; from = from; letter = letter } ∷ []))
+          → take (pathCount d (count + 1)) (pathWith d path count from letter) ≡ pathRows d (l ++ (record { state = take width key; from = from; letter = letter } ∷ []))
       go true p h = stored-path path count from letter p ∙ ap (λ (k : List ℕ). k ++ (from ∷ letter ∷ [])) h ∙ sym (path-more l _)
       go false p h = h
 
-  pub kept-more : Kept m deciding (count + 1) keys path keys′ path′
+  pub kept-more : Kept width noting (count + 1) keys path keys′ path′
   kept-more = record {
-    keys-rest = rw (s .keys-are, next-cells) (drop-paste keys (count * m) key m (omega arith) (room .long));
-    path-rest = rw (s .path-is) (go deciding (room .path-room));
+    keys-rest = rw (s .keys-are, next-cells) (drop-paste keys (count * width) key width (omega arith) (room .long));
+    path-rest = rw (s .path-is) (go noting (room .path-room));
   }
     where
       go : (d : Bool) → pathCount d (count + 1) ≤ length path

@@ -1,5 +1,6 @@
 -- The machine that the code explores, the lent areas, where the loop stands, and what it leaves.
 pub mod Machine
+pub mod Loaded
 pub mod Areas
 pub mod Standing
 pub mod Outcome

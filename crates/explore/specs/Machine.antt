@@ -1,17 +1,16 @@
--- The machine that the code explores: its states are key rows of m cells. Every row keeps m cells that are dead or of the size of an entry.
-use Prim.Native.Nat.{ℕ, _+_, _*_, _≤_, _<_}
+-- The machine that the code explores: its states are key rows, as wide as its plan says. Every row keeps its cells dead or of the size of an entry.
+use Prim.Native.Nat.{ℕ, _+_, _*_, _^_, _≤_, _<_}
 use mathlib.Core.Path.{_≡_, refl, sym, ap₂, _∙_}
 use mathlib.Core.Logic.{inl, inr, ⊎-elim}
 use mathlib.Core.Bool.{Bool, true, false, cond, _&&_, true≢false}
-use mathlib.Core.List.{List, [], _∷_, map}
-use native.Mathlib.Nat.{zero-add}
+use mathlib.Core.List.{List, [], _∷_}
 use native.Mathlib.Omega.{arith}
-use lib.ListN.{length, getD}
+use lib.ListN.{length, getD, take}
 use lib.IntN.{ℤ, pos, negℤ, natAbs, _-ℤ_}
 use lib.Ieee.Bits.{is-true}
 use Rattle.scope.specs.Whole.{eqZ, even, half}
-use Rattle.scope.specs.Question.{Kind, equation, atMost, nodeOf}
-use Rattle.scope.specs.States.{dead, live, deadCell, cellOf, halved, formulaWorth}
+use Rattle.scope.specs.Question.{Kind, equation, atMost}
+use Rattle.scope.specs.States.{dead, live, deadCell, cellOf, halved}
 use Rattle.scope.specs.Numbering.{Machine}
 use Rattle.theory.specs.Integers.{eqZ→eq, eq→eqZ}
 use Rattle.theory.specs.Magnitude.{abs-le, le-abs}
@@ -20,8 +19,10 @@ use Rattle.theory.specs.Bridge.{linear}
 use Rattle.theory.specs.Lawful.{Lawful}
 use Rattle.theory.specs.Exploring.{partial}
 use Rattle.theory.specs.Simulation.{Simulates, AllGood, partial-good}
-use Rattle.step.specs.Eight.{length-listed, getD-listed}
+use Rattle.formula.specs.Truths.{bitAt, truthAt}
 use Rattle.step.specs.Cells.{kindOf, stepCell, stepCells, worthCells, CellFits}
+use Rattle.step.specs.Laws.{step-length, step-cell}
+use Rattle.explore.specs.declared.Plan.{Plan}
 
 -- ---- whether two rows have the same cells
 
@@ -51,41 +52,24 @@ same-cells-refl (x ∷ a) = rw (is-true (eqZ x x) (eq→eqZ x x refl), same-cell
 
 -- ---- the machine, of what the code is handed
 
-unfoldable pub cellMachine : List ℕ → List ℕ → ℕ → List ℤ → ℕ → List ℤ → Machine (List ℤ)
-cellMachine codes kinds m sums letters start = record {
+unfoldable pub cellMachine : List ℕ → List ℕ → ℕ → ℕ → List ℤ → List ℤ → Machine (List ℤ)
+cellMachine truths kinds width letters sums start = record {
   letters = letters;
   start = start;
-  step = λ cells letter. stepCells kinds m sums letter cells 0;
-  accepts = λ cells. formulaWorth (map nodeOf codes) (worthCells kinds m cells 0);
+  step = λ cells letter. stepCells kinds width sums letter cells;
+  accepts = λ cells. truthAt truths (worthCells kinds cells);
   same = sameCells;
 }
 
-module _ (codes kinds : List ℕ) (m : ℕ) (sums : List ℤ) (letters : ℕ) (start : List ℤ) where
-  pub cell-letters : cellMachine codes kinds m sums letters start .letters ≡ letters
-  unfolding cellMachine
-  cell-letters = refl
+-- with the key area's first row as its start
+abbrev pub machine : Plan → List ℤ → List ℤ → Machine (List ℤ)
+machine plan sums keys = cellMachine (plan .truths) (plan .kinds) (plan .width) (plan .letters) sums (take (plan .width) keys)
 
-  pub cell-start : cellMachine codes kinds m sums letters start .start ≡ start
-  unfolding cellMachine
-  cell-start = refl
+-- ---- key rows: so many cells that a step is defined on
 
-  pub cell-step : (cells : List ℤ) (letter : ℕ) → cellMachine codes kinds m sums letters start .step cells letter ≡ stepCells kinds m sums letter cells 0
-  unfolding cellMachine
-  cell-step cells letter = refl
-
-  pub cell-accepts : (cells : List ℤ) → cellMachine codes kinds m sums letters start .accepts cells ≡ formulaWorth (map nodeOf codes) (worthCells kinds m cells 0)
-  unfolding cellMachine
-  cell-accepts cells = refl
-
-  pub cell-lawful : Lawful (cellMachine codes kinds m sums letters start)
-  unfolding cellMachine
-  cell-lawful = record { same-sound = same-cells-sound; same-refl = same-cells-refl }
-
--- ---- key rows: m cells that a step is defined on
-
-pub record KeyRow (m : ℕ) (cells : List ℤ) : Type 0 where
-  pub width : length cells ≡ m
-  pub fits : (i : ℕ) → i < m → CellFits (getD cells i (pos 0))
+pub record KeyRow (width : ℕ) (cells : List ℤ) : Type 0 where
+  pub size : length cells ≡ width
+  pub fits : (i : ℕ) → i < width → CellFits (getD cells i (pos 0))
 
 half-fits : (cell sum : ℤ) → natAbs cell ≤ 1000000 → natAbs sum ≤ 24576 → natAbs (half (cell -ℤ sum)) ≤ 1000000
 half-fits cell sum f g =
@@ -115,34 +99,86 @@ step-fits κ cell sum f g = go (eqZ cell deadCell) refl
     go true e = inl refl
     go false e = halved-fits κ (cell -ℤ sum) (half-fits cell sum (small false e refl) g)
 
--- the letters' sums are those of a question
-abbrev pub SumsFit : ℕ → List ℤ → ℕ → Type 0
-SumsFit m sums letters = (letter i : ℕ) → letter < letters → i < m → natAbs (getD sums (8 * letter + i) (pos 0)) ≤ 24576
+-- ---- what the code is handed of a question
 
-module _ (codes kinds : List ℕ) (m : ℕ) (sums : List ℤ) (letters : ℕ) (start : List ℤ) where
-  pub step-row : SumsFit m sums letters → (cells : List ℤ) → KeyRow m cells → (letter : ℕ) → letter < letters → KeyRow m (stepCells kinds m sums letter cells 0)
-  unfolding stepCells
-  step-row sums-fit cells k letter h =
-      record {
-        width = length-listed _ m;
-        fits = λ i p.
-            rw (getD-listed (λ (i : ℕ). stepCell (kindOf (getD kinds i 0)) (getD cells (0 + i) (pos 0)) (getD sums (8 * letter + i) (pos 0))) m i (pos 0) p, zero-add)
-            (step-fits (kindOf (getD kinds i 0)) (getD cells i (pos 0)) (getD sums (8 * letter + i) (pos 0)) (k .fits i p) (sums-fit letter i h p));
-      }
+-- the letters' sums are those of a question
+abbrev pub SumsFit : List ℤ → ℕ → Type 0
+SumsFit sums letters = (letter i : ℕ) → letter < letters → i < 8 → natAbs (getD sums (8 * letter + i) (pos 0)) ≤ 24576
+
+-- an earlier letter has the same sums
+pub record Repeats (sums : List ℤ) (letter : ℕ) : Type 0 where
+  pub lead : ℕ
+  pub earlier : lead < letter
+  pub same : (i : ℕ) → i < 8 → getD sums (8 * letter + i) (pos 0) ≡ getD sums (8 * lead + i) (pos 0)
+
+-- a bit for each letter: one whose bit is 0 repeats an earlier one
+pub record FreshBits (sums : List ℤ) (letters fresh : ℕ) : Type 0 where
+  pub below : fresh < 2 ^ letters
+  pub repeats : (letter : ℕ) → letter < letters → bitAt fresh letter ≡ false → Repeats sums letter
+
+pub record Task (plan : Plan) (sums : List ℤ) : Type 0 where
+  pub narrow : plan .width ≤ 8
+  pub some-letters : 0 < plan .letters
+  pub few-letters : plan .letters ≤ 64
+  pub sums-fit : SumsFit sums (plan .letters)
+  pub blank : (letter i : ℕ) → letter < plan .letters → plan .width ≤ i → i < 8 → getD sums (8 * letter + i) (pos 0) ≡ pos 0
+  pub bits : FreshBits sums (plan .letters) (plan .fresh)
+
+-- ---- what is known of the machine
+
+module _ {plan : Plan} {sums : List ℤ} (task : Task plan sums) where
+  step-row : (cells : List ℤ) → KeyRow (plan .width) cells → (letter : ℕ) → letter < plan .letters → KeyRow (plan .width) (stepCells (plan .kinds) (plan .width) sums letter cells)
+  step-row cells k letter h = record {
+    size = step-length (plan .kinds) sums letter cells (plan .width);
+    fits = λ i p.
+        rw (step-cell (plan .kinds) sums letter cells (plan .width) i p)
+        (step-fits (kindOf (getD (plan .kinds) i 0)) (getD cells i (pos 0)) (getD sums (8 * letter + i) (pos 0)) (k .fits i p)
+        (task .sums-fit letter i h (omega (arith, task .narrow))));
+  }
 
   -- the machine does what it does
-  itself : SumsFit m sums letters → KeyRow m start
-      → Simulates (cellMachine codes kinds m sums letters start) (cellMachine codes kinds m sums letters start) (λ s. s) (KeyRow m)
+  itself : (start : List ℤ) → KeyRow (plan .width) start
+      → let M = cellMachine (plan .truths) (plan .kinds) (plan .width) (plan .letters) sums start in Simulates M M (λ s. s) (KeyRow (plan .width))
   unfolding cellMachine
-  itself sums-fit k = record {
+  itself start k = record {
     letters = refl;
     start = refl;
     good-start = k;
-    good-step = λ s g a p. step-row sums-fit s g a p;
+    good-step = λ s g a p. step-row s g a p;
     step = λ s g a p. refl;
     accepts = λ s g. refl;
     same = λ s t g f. refl;
   }
 
-  pub partial-rows : SumsFit m sums letters → KeyRow m start → (i a : ℕ) → a ≤ letters → AllGood (KeyRow m) (partial (cellMachine codes kinds m sums letters start) i a)
-  partial-rows sums-fit k i a p = partial-good (itself sums-fit k) i a (rw cell-letters p)
+-- M is the machine of a plan
+pub record Runs (plan : Plan) (sums start : List ℤ) (M : Machine (List ℤ)) : Type 0 where
+  pub lawful : Lawful M
+  pub letters-are : M .letters ≡ plan .letters
+  pub start-is : M .start ≡ start
+  pub steps : (cells : List ℤ) (letter : ℕ) → M .step cells letter ≡ stepCells (plan .kinds) (plan .width) sums letter cells
+  pub accepts-are : (cells : List ℤ) → M .accepts cells ≡ truthAt (plan .truths) (worthCells (plan .kinds) cells)
+  pub rows-good : Task plan sums → KeyRow (plan .width) (M .start) → (i a : ℕ) → a ≤ plan .letters → AllGood (KeyRow (plan .width)) (partial M i a)
+
+module _ (plan : Plan) (sums start : List ℤ) where
+  cell-letters : cellMachine (plan .truths) (plan .kinds) (plan .width) (plan .letters) sums start .letters ≡ plan .letters
+  unfolding cellMachine
+  cell-letters = refl
+
+  cell-start : cellMachine (plan .truths) (plan .kinds) (plan .width) (plan .letters) sums start .start ≡ start
+  unfolding cellMachine
+  cell-start = refl
+
+  runs : Runs plan sums start (cellMachine (plan .truths) (plan .kinds) (plan .width) (plan .letters) sums start)
+  unfolding cellMachine
+  runs = record {
+    lawful = record { same-sound = same-cells-sound; same-refl = same-cells-refl };
+    letters-are = refl;
+    start-is = refl;
+    steps = λ cells letter. refl;
+    accepts-are = λ cells. refl;
+    rows-good = λ task k i a p. partial-good (itself task start (rw cell-start at k)) i a (rw cell-letters p);
+  }
+
+-- the start is the key area's first row
+pub machine-runs : (plan : Plan) (sums keys : List ℤ) → Runs plan sums (take (plan .width) keys) (machine plan sums keys)
+machine-runs plan sums keys = runs plan sums (take (plan .width) keys)

@@ -1,6 +1,6 @@
 -- What number_rows asks and leaves: the verdict of the machine over the rows lent, with the rows of every state counted at the areas' fronts.
--- Building tests no state: it ends in never where the reachable states are at most the rows, and else in no room.
-use Prim.Native.Nat.{ℕ, suc, _*_, _≤_, _<_}
+-- Where no state is tested, it ends in never if the reachable states are at most the rows, and else in no room.
+use Prim.Native.Nat.{ℕ, suc, _<_}
 use mathlib.Core.Path.{_≡_}
 use mathlib.Core.Bool.{Bool, true, false}
 use mathlib.Core.Option.{none}
@@ -9,39 +9,41 @@ use lib.ListN.{length, getD, take}
 use lib.Dec.{leb}
 use lib.IntN.{ℤ, pos}
 use Rattle.scope.specs.Whole.{atFront}
-use Rattle.scope.specs.Numbering.{Machine, numbered}
+use Rattle.scope.specs.Numbering.{Machine, Rows, row, numbered}
 use Rattle.scope.specs.Deciding.{Verdict, found, never, noRoom, verdictBy, verdict, counted}
 use Rattle.step.specs.Cells.{CellFits}
+use Rattle.explore.specs.declared.Plan.{Plan}
+use Rattle.explore.specs.declared.Stand.{Stand}
 use Rattle.explore.specs.declared.Explored.{Explored}
-use Rattle.explore.specs.Areas.{rowCells, pathRows, pathCount}
+use Rattle.explore.specs.Areas.{rowCells, pathRows}
+use Rattle.explore.specs.Standing.{Lent}
 
 abbrev pub outcome : {S : Type 0} → Bool → Machine S → ℕ → Verdict
 outcome true M rows = verdict M rows (numbered M rows)
 outcome false M rows = verdictBy none (leb (length (numbered M rows)) rows)
 
--- the verdict over so many rows, where so many are numbered, as the code answers it
-abbrev pub exploredAs : Verdict → ℕ → ℕ → Explored
-exploredAs (found w) rows all = Explored.Found (suc w)
-exploredAs never rows all = Explored.All all
-exploredAs noRoom rows all = Explored.NoRoom rows
+-- the verdict over so many rows, where the rows l are numbered, as the code answers it: the state found has the last of the rows that count,
+-- and is told by the row and the letter from which it was numbered
+abbrev pub exploredAs : {S : Type 0} → Machine S → Verdict → ℕ → Rows S → Explored
+exploredAs M (found w) rows l = Explored.Found (suc w) (row M l w .from) (row M l w .letter)
+exploredAs M never rows l = Explored.All (length l)
+exploredAs M noRoom rows l = Explored.NoRoom rows
 
--- the start is row 0 already; deciding, its path cells stand too, and it does not accept
-pub record Ready (M : Machine (List ℤ)) (m rows : ℕ) (deciding : Bool) (keys : List ℤ) (path : List ℕ) : Type 0 where
-  pub some-rows : 0 < rows
-  pub few-rows : rows ≤ 65535
-  pub keys-room : rows * m ≤ length keys
-  pub path-room : pathCount deciding rows ≤ length path
-  pub start-fits : (i : ℕ) → i < m → CellFits (getD keys i (pos 0))
-  pub path-start : deciding ≡ true → take 2 path ≡ 0 ∷ 0 ∷ []
-  pub refused : deciding ≡ true → M .accepts (M .start) ≡ false
+-- the start is row 0 already; where it is noted, its path cells stand too, and where it is tested, it does not accept
+pub record Ready (M : Machine (List ℤ)) (plan : Plan) (keys : List ℤ) (path : List ℕ) : Type 0 where
+  pub some-rows : 0 < plan .rows
+  pub lent : Lent plan keys path
+  pub start-fits : (i : ℕ) → i < plan .width → CellFits (getD keys i (pos 0))
+  pub path-start : plan .noting ≡ true → take 2 path ≡ 0 ∷ 0 ∷ []
+  pub refused : plan .testing ≡ true → M .accepts (M .start) ≡ false
 
-pub record Numbered (M : Machine (List ℤ)) (rows : ℕ) (deciding : Bool) (keys₀ : List ℤ) (path₀ : List ℕ) (keys : List ℤ) (path : List ℕ) (r : Explored) : Type 0 where
-  pub answer : r ≡ exploredAs (outcome deciding M rows) rows (length (numbered M rows))
-  pub keys-after : keys ≡ atFront (rowCells (counted (outcome deciding M rows) rows (numbered M rows))) keys₀
-  pub path-after : path ≡ atFront (pathRows deciding (counted (outcome deciding M rows) rows (numbered M rows))) path₀
+pub record Numbered (M : Machine (List ℤ)) (plan : Plan) (keys₀ : List ℤ) (path₀ : List ℕ) (keys : List ℤ) (path : List ℕ) (r : Explored) : Type 0 where
+  pub answer : r ≡ exploredAs M (outcome (plan .testing) M (plan .rows)) (plan .rows) (numbered M (plan .rows))
+  pub keys-after : keys ≡ atFront (rowCells (counted (outcome (plan .testing) M (plan .rows)) (plan .rows) (numbered M (plan .rows)))) keys₀
+  pub path-after : path ≡ atFront (pathRows (plan .noting) (counted (outcome (plan .testing) M (plan .rows)) (plan .rows) (numbered M (plan .rows)))) path₀
 
 -- by whether exploring has stopped, and whether a state was accepted
-abbrev pub exploredBy : Bool → Bool → ℕ → Explored
-exploredBy false b count = Explored.All count
-exploredBy true true count = Explored.Found count
-exploredBy true false count = Explored.NoRoom count
+abbrev pub exploredBy : Bool → Bool → Stand → Explored
+exploredBy false b s = Explored.All (s .count)
+exploredBy true true s = Explored.Found (s .count) (s .row) (s .letter)
+exploredBy true false s = Explored.NoRoom (s .count)

@@ -1,5 +1,5 @@
 -- The two stages of exploring: it begins at the start's row with few rows, and goes on, where these are full, with all.
-use Prim.Native.Nat.{ℕ, _*_, _≤_, _<_}
+use Prim.Native.Nat.{ℕ, _*_, _/_, _≤_, _<_}
 use mathlib.Core.Path.{_≡_, refl}
 use mathlib.Core.Logic.{by-cases}
 use mathlib.Core.Bool.{Bool, true, false}
@@ -14,83 +14,100 @@ use Rattle.scope.specs.Whole.{joined}
 use Rattle.scope.specs.Numbering.{Machine, startRow, numbered}
 use Rattle.theory.specs.Exploring.{partial-zero, start-rows, start-none}
 use Rattle.index.specs.Laws.{none-indexed}
+use Rattle.explore.specs.declared.Plan.{Plan}
 use Rattle.explore.specs.declared.Stand.{Stand}
-use Rattle.explore.specs.Machine.{KeyRow}
+use Rattle.explore.specs.Machine.{KeyRow, Task}
 use Rattle.explore.specs.Areas.{rowCells, pathRows, pathCount, path-count-le, Held, kept-trans}
-use Rattle.explore.specs.Standing.{Lent, Linked, Stands, FullAt, Ended}
+use Rattle.explore.specs.Standing.{Lent, Linked, Stands, FullAt, stands-as, Ended, withRows, goingAt}
 use Rattle.explore.specs.Outcome.{Ready}
 
 take-none : {A : Type 0} (l : List A) → take 0 l ≡ []
 take-none [] = refl
 take-none (x ∷ l) = refl
 
--- ---- an index as it is made: every bucket and link is none
+-- ---- an index as it is made: every link is none
 
-pub none-linked : (m rows : ℕ) (keys : List ℤ) (n : ℕ) → m ≤ 8 → 0 < n → n ≤ 65536 → rows ≤ n → Linked m rows keys (replicate n 65535) (replicate n 65535) 0
-none-linked m rows keys n width some few room = record {
-  indexed = none-indexed keys m n (replicate n 65535) width some few;
-  links = rw length-replicate room;
+pub none-linked : (plan : Plan) (keys : List ℤ) (size : ℕ) → plan .width ≤ 8 → 0 < size / 2 → size / 2 ≤ 65536 → plan .rows ≤ size / 2
+    → Linked plan keys (replicate size 65535) 0
+none-linked plan keys size narrow some few room = record {
+  indexed = none-indexed keys (plan .width) size narrow some few;
+  room = rw length-replicate room;
 }
+
+-- ---- the same plan in fewer rows
+
+pub fewer-task : (plan : Plan) (few : ℕ) {sums : List ℤ} → Task plan sums → Task (withRows plan few) sums
+fewer-task plan few t = record {
+  narrow = t .narrow;
+  some-letters = t .some-letters;
+  few-letters = t .few-letters;
+  sums-fit = t .sums-fit;
+  blank = t .blank;
+  bits = t .bits;
+}
+
+pub fewer-lent : {plan : Plan} {keys : List ℤ} {path : List ℕ} → Lent plan keys path → {few : ℕ} → few ≤ plan .rows → Lent (withRows plan few) keys path
+fewer-lent {plan} l {few} less =
+    let cells : few * plan .width ≤ plan .rows * plan .width = mul-le-mul-right (plan .width) less in
+    record {
+      few-rows = omega (arith, l .few-rows);
+      keys-room = omega (arith, l .keys-room);
+      path-room = omega (arith, l .path-room, path-count-le (plan .noting) few (plan .rows) less);
+    }
 
 -- ---- the start's row
 
-module _ (M : Machine (List ℤ)) {m rows : ℕ} {deciding : Bool} {keys : List ℤ} {path : List ℕ} (ready : Ready M m rows deciding keys path)
-    (start-is : take m keys ≡ M .start) where
-  long : m ≤ length keys
-  long = let e : 1 * m ≤ rows * m = mul-le-mul-right m (ready .some-rows) in omega (arith, ready .keys-room)
+module _ (M : Machine (List ℤ)) {plan : Plan} {keys : List ℤ} {path : List ℕ} (ready : Ready M plan keys path)
+    (start-is : take (plan .width) keys ≡ M .start) where
+  long : plan .width ≤ length keys
+  long = let e : 1 * plan .width ≤ plan .rows * plan .width = mul-le-mul-right (plan .width) (ready .some-rows) in omega (arith, ready .lent .keys-room)
 
-  first-row : KeyRow m (take m keys)
+  first-row : KeyRow (plan .width) (take (plan .width) keys)
   first-row = record {
-    width = length-take-le m keys long;
-    fits = λ i h. rw (getD-take m keys i (pos 0) h) (ready .start-fits i h);
+    size = length-take-le (plan .width) keys long;
+    fits = λ i h. rw (getD-take (plan .width) keys i (pos 0) h) (ready .start-fits i h);
   }
 
-  first-held : Held m deciding (startRow M ∷ []) 1 keys path
+  first-held : Held (plan .width) (plan .noting) (startRow M ∷ []) 1 keys path
   unfolding rowCells pathRows joined startRow
   first-held = record {
     count-is = refl;
     keys-hold = rw (one-mul, append-nil) start-is;
-    path-holds = go deciding (ready .path-start);
+    path-holds = go (plan .noting) (ready .path-start);
   }
     where
       go : (d : Bool) → (d ≡ true → take 2 path ≡ 0 ∷ 0 ∷ []) → take (pathCount d 1) path ≡ pathRows d (startRow M ∷ [])
       go true h = h refl
       go false h = take-none path
 
-  pub start-stands : 0 < M .letters → {few : ℕ} → 0 < few → few ≤ rows → Stands M m few deciding keys path 1 0 0
-  start-stands some {few} h less =
-      let cells : few * m ≤ rows * m = mul-le-mul-right m less in
-      record {
-        rows-there = rw (partial-zero M 0, start-rows M) (record {
-          lent = record {
-            few-rows = omega (arith, ready .few-rows);
-            keys-room = omega (arith, ready .keys-room);
-            path-room = omega (arith, ready .path-room, path-count-le deciding few rows less);
-          };
-          count-ok = h;
-          start-is = start-is;
-          start-row = rw (← start-is) first-row;
-          held = first-held;
-          none = λ d. rw (start-rows M) at (start-none M (ready .refused d));
-        });
-        letter-ok = some;
-        begun = λ ne. absurd (ne refl);
-        row-ok = omega arith;
-      }
+  pub start-stands : 0 < M .letters → {few : ℕ} → 0 < few → few ≤ plan .rows → Stands M (withRows plan few) keys path (goingAt 1 0 0)
+  start-stands some {few} h less = record {
+    rows-there = rw (partial-zero M 0, start-rows M) (record {
+      lent = fewer-lent (ready .lent) less;
+      count-ok = h;
+      start-is = start-is;
+      start-row = rw (← start-is) first-row;
+      held = first-held;
+      none = λ d. rw (start-rows M) at (start-none M (ready .refused d));
+    });
+    letter-ok = some;
+    begun = λ ne. absurd (ne refl);
+    row-ok = omega arith;
+  }
 
 -- ---- a row that is expanded, or is being expanded, is there
 
-pub has-begun : (M : Machine (List ℤ)) {m rows : ℕ} {deciding : Bool} {keys : List ℤ} {path : List ℕ} {count i a : ℕ}
-    → Stands M m rows deciding keys path count i a → i < count → i < length (numbered M i)
-has-begun M {count = count} {i} {a} s below =
-    by-cases (ℕ-discrete a 0)
-    (λ e. let l : length (numbered M i) ≡ count = rw (e, partial-zero M i) at (s .rows-there .held .count-is) in omega arith)
-    (λ ne. s .begun ne)
+pub has-begun : (M : Machine (List ℤ)) {plan : Plan} {keys : List ℤ} {path : List ℕ} {s : Stand}
+    → Stands M plan keys path s → s .row < s .count → s .row < length (numbered M (s .row))
+has-begun M {s = s} t below =
+    by-cases (ℕ-discrete (s .letter) 0)
+    (λ e. let l : length (numbered M (s .row)) ≡ s .count = rw (e, partial-zero M (s .row)) at (t .rows-there .held .count-is) in omega arith)
+    (λ ne. t .begun ne)
 
 -- ---- from few rows to all
 
-pub more-stands : {M : Machine (List ℤ)} {m few rows : ℕ} {deciding : Bool} {keys : List ℤ} {path : List ℕ} {count i a : ℕ}
-    → few ≤ rows → Lent m rows deciding keys path → Stands M m few deciding keys path count i a → Stands M m rows deciding keys path count i a
+pub more-stands : {M : Machine (List ℤ)} {plan : Plan} {few : ℕ} {keys : List ℤ} {path : List ℕ} {s : Stand}
+    → few ≤ plan .rows → Lent plan keys path → Stands M (withRows plan few) keys path s → Stands M plan keys path (goingAt (s .count) (s .row) (s .letter))
 more-stands less lent s =
     let t = s .rows-there in
     record {
@@ -107,13 +124,12 @@ more-stands less lent s =
       row-ok = s .row-ok;
     }
 
-module _ {M : Machine (List ℤ)} {m few : ℕ} {deciding : Bool} {keys₀ : List ℤ} {path₀ : List ℕ} {count₀ : ℕ} {keys : List ℤ} {path : List ℕ} {s : Stand}
-    (e : Ended M m few deciding keys₀ path₀ count₀ keys path s) where
-  pub stopped-full : s .stopped ≡ true → s .accepted ≡ false → FullAt M m few deciding keys path (s .count) (s .row) (s .letter)
-  stopped-full p q = rw (p, q) at (e .went .there)
+module _ {M : Machine (List ℤ)} (plan : Plan) {few : ℕ} {count₀ : ℕ} {keys₀ : List ℤ} {path₀ : List ℕ} {keys : List ℤ} {path : List ℕ} {s : Stand}
+    (e : Ended M (withRows plan few) count₀ keys₀ path₀ keys path s) where
+  pub stopped-full : s .stopped ≡ true → s .accepted ≡ false → FullAt M (withRows plan few) keys path s
+  stopped-full p q = stands-as M (withRows plan few) keys path s p q (e .went .there)
 
-  pub ended-after : {rows : ℕ} {keys′ : List ℤ} {path′ : List ℕ} {t : Stand} → Ended M m rows deciding keys path (s .count) keys′ path′ t
-      → Ended M m rows deciding keys₀ path₀ count₀ keys′ path′ t
+  pub ended-after : {keys′ : List ℤ} {path′ : List ℕ} {t : Stand} → Ended M plan (s .count) keys path keys′ path′ t → Ended M plan count₀ keys₀ path₀ keys′ path′ t
   ended-after {t = t} f = record {
     went = record {
       more = omega (arith, e .went .more, f .went .more);

@@ -1,66 +1,71 @@
 -- Where exploring stands: the areas hold the rows of the middle of row i, its letters below a tried, and the index has them. And what it
 -- ends in: a new state that accepts, a new state that finds no room, or every row expanded.
 use Prim.Native.Nat.{ℕ, _+_, _*_, _≤_, _<_}
-use mathlib.Core.Path.{_≡_}
+use mathlib.Core.Path.{_≡_, subst}
 use mathlib.Core.Bool.{Bool, true, false, _&&_}
-use mathlib.Core.List.{List, map}
+use mathlib.Core.List.{List}
 use lib.ListN.{length, take}
 use lib.IntN.{ℤ}
 use Rattle.scope.specs.Numbering.{Machine, Rows, numbered}
-use Rattle.scope.specs.Question.{nodeOf}
-use Rattle.scope.specs.States.{formulaWorth}
 use Rattle.theory.specs.Verdicts.{NoneOf}
 use Rattle.theory.specs.Exploring.{partial, target, New, grown}
+use Rattle.formula.specs.Truths.{bitAt, truthAt}
 use Rattle.step.specs.Cells.{worthCells}
-use Rattle.index.specs.Index.{Indexed}
+use Rattle.index.specs.Rows.{rowAt}
+use Rattle.index.specs.Index.{Key, buckets, Indexed}
+use Rattle.explore.specs.declared.Plan.{Plan}
 use Rattle.explore.specs.declared.Stand.{Stand}
-use Rattle.explore.specs.Machine.{KeyRow, SumsFit}
-use Rattle.explore.specs.Areas.{pathCount, Held, Kept, Stored}
+use Rattle.explore.specs.Machine.{KeyRow}
+use Rattle.explore.specs.Areas.{pathCount, Held, Kept, Stored, RowRoom}
 
--- what the code is handed of a question
-pub record Task (codes : List ℕ) (m : ℕ) (sums : List ℤ) (letters : ℕ) : Type 0 where
-  pub codes-whole : length codes ≡ 64
-  pub atoms : m ≤ 8
-  pub some-letters : 0 < letters
-  pub few-letters : letters ≤ 64
-  pub sums-fit : SumsFit m sums letters
+-- the areas have room for the rows
+pub record Lent (plan : Plan) (keys : List ℤ) (path : List ℕ) : Type 0 where
+  pub few-rows : plan .rows ≤ 65535
+  pub keys-room : plan .rows * plan .width ≤ length keys
+  pub path-room : pathCount (plan .noting) (plan .rows) ≤ length path
 
--- the areas have room for so many rows
-pub record Lent (m rows : ℕ) (deciding : Bool) (keys : List ℤ) (path : List ℕ) : Type 0 where
-  pub few-rows : rows ≤ 65535
-  pub keys-room : rows * m ≤ length keys
-  pub path-room : pathCount deciding rows ≤ length path
+-- the index has the first count rows, and room for all
+pub record Linked (plan : Plan) (keys : List ℤ) (links : List ℕ) (count : ℕ) : Type 0 where
+  pub indexed : Indexed keys (plan .width) links count
+  pub room : plan .rows ≤ buckets links
 
--- the index has the first count rows, and room for so many
-pub record Linked (m rows : ℕ) (keys : List ℤ) (head next : List ℕ) (count : ℕ) : Type 0 where
-  pub indexed : Indexed keys m head next count
-  pub links : rows ≤ length next
+-- the rows l are there and, where they are tested, none of them accepts
+pub record There (M : Machine (List ℤ)) (plan : Plan) (keys : List ℤ) (path : List ℕ) (count : ℕ) (l : Rows (List ℤ)) : Type 0 where
+  pub lent : Lent plan keys path
+  pub count-ok : count ≤ plan .rows
+  pub start-is : take (plan .width) keys ≡ M .start
+  pub start-row : KeyRow (plan .width) (M .start)
+  pub held : Held (plan .width) (plan .noting) l count keys path
+  pub none : plan .testing ≡ true → NoneOf M l (length l)
 
--- the rows l are there and, deciding, none of them accepts
-pub record There (M : Machine (List ℤ)) (m rows : ℕ) (deciding : Bool) (keys : List ℤ) (path : List ℕ) (count : ℕ) (l : Rows (List ℤ)) : Type 0 where
-  pub lent : Lent m rows deciding keys path
-  pub count-ok : count ≤ rows
-  pub start-is : take m keys ≡ M .start
-  pub start-row : KeyRow m (M .start)
-  pub held : Held m deciding l count keys path
-  pub none : deciding ≡ true → NoneOf M l (length l)
+-- at a letter of a row
+pub record Stands (M : Machine (List ℤ)) (plan : Plan) (keys : List ℤ) (path : List ℕ) (s : Stand) : Type 0 where
+  pub rows-there : There M plan keys path (s .count) (partial M (s .row) (s .letter))
+  pub letter-ok : s .letter < M .letters
+  pub begun : (s .letter ≡ 0 → ⊥) → s .row < length (numbered M (s .row))
+  pub row-ok : s .row ≤ s .count
 
--- at letter a of row i
-pub record Stands (M : Machine (List ℤ)) (m rows : ℕ) (deciding : Bool) (keys : List ℤ) (path : List ℕ) (count i a : ℕ) : Type 0 where
-  pub rows-there : There M m rows deciding keys path count (partial M i a)
-  pub letter-ok : a < M .letters
-  pub begun : (a ≡ 0 → ⊥) → i < length (numbered M i)
-  pub row-ok : i ≤ count
+-- there is a row where it stands, and these are its cells
+pub record RowOf (plan : Plan) (keys : List ℤ) (s : Stand) (row : List ℤ) : Type 0 where
+  pub below : s .row < s .count
+  pub cells : take (plan .width) row ≡ rowAt keys (plan .width) (s .row)
+  pub key : Key (plan .width) row
 
--- the place after letter a of row i
-pub data After (letters i a : ℕ) : ℕ → ℕ → Type 0 where
-  next-letter : a + 1 < letters → After letters i a i (a + 1)
-  next-row : a + 1 ≡ letters → After letters i a (i + 1) 0
+-- the letters between have their bits at 0
+pub record Skips (fresh letter next : ℕ) : Type 0 where
+  pub later : letter < next
+  pub between : (k : ℕ) → letter < k → k < next → bitAt fresh k ≡ false
 
-pub record Moved (letters count i a : ℕ) (s : Stand) : Type 0 where
-  pub count-is : s .count ≡ count
-  pub goes-on : s .stopped ≡ false
-  pub place : After letters i a (s .row) (s .letter)
+-- the place after letter a of row i: a later letter, or the next row, with no letter between that is to be tried
+pub data After (plan : Plan) (i a : ℕ) : ℕ → ℕ → Type 0 where
+  next-letter : {b : ℕ} → b < plan .letters → Skips (plan .fresh) a b → After plan i a i b
+  next-row : Skips (plan .fresh) a (plan .letters) → After plan i a (i + 1) 0
+
+-- from s to the place after it, with so many rows
+pub record Moved (plan : Plan) (s : Stand) (count : ℕ) (to : Stand) : Type 0 where
+  pub count-is : to .count ≡ count
+  pub goes-on : to .stopped ≡ false
+  pub place : After plan (s .row) (s .letter) (to .row) (to .letter)
 
 -- letter a of row i leads to a state that has no row
 pub record Spot (M : Machine (List ℤ)) (i a : ℕ) : Type 0 where
@@ -68,58 +73,93 @@ pub record Spot (M : Machine (List ℤ)) (i a : ℕ) : Type 0 where
   pub letter-ok : a < M .letters
   pub new : New M i a
 
--- deciding: the new state has the last row, and accepts
-pub record FoundAt (M : Machine (List ℤ)) (m rows : ℕ) (deciding : Bool) (keys : List ℤ) (path : List ℕ) (count i a : ℕ) : Type 0 where
-  pub is-deciding : deciding ≡ true
-  pub spot : Spot M i a
-  pub count-ok : count ≤ rows
-  pub held : Held m deciding (grown M i a) count keys path
-  pub none : NoneOf M (partial M i a) (length (partial M i a))
-  pub accepts : M .accepts (target M (partial M i a) i a) ≡ true
+-- the new state was tested, has the last row, and accepts
+pub record FoundAt (M : Machine (List ℤ)) (plan : Plan) (keys : List ℤ) (path : List ℕ) (s : Stand) : Type 0 where
+  pub is-tested : plan .testing ≡ true
+  pub spot : Spot M (s .row) (s .letter)
+  pub count-ok : s .count ≤ plan .rows
+  pub held : Held (plan .width) (plan .noting) (grown M (s .row) (s .letter)) (s .count) keys path
+  pub none : NoneOf M (partial M (s .row) (s .letter)) (length (partial M (s .row) (s .letter)))
+  pub accepts : M .accepts (target M (partial M (s .row) (s .letter)) (s .row) (s .letter)) ≡ true
 
 -- the new state has no row left
-pub record FullAt (M : Machine (List ℤ)) (m rows : ℕ) (deciding : Bool) (keys : List ℤ) (path : List ℕ) (count i a : ℕ) : Type 0 where
-  pub stands : Stands M m rows deciding keys path count i a
-  pub new : New M i a
-  pub below : i < count
-  pub full : count ≡ rows
+pub record FullAt (M : Machine (List ℤ)) (plan : Plan) (keys : List ℤ) (path : List ℕ) (s : Stand) : Type 0 where
+  pub stands : Stands M plan keys path s
+  pub new : New M (s .row) (s .letter)
+  pub below : s .row < s .count
+  pub full : s .count ≡ plan .rows
 
 -- by whether exploring has stopped, and whether a state was accepted
-abbrev pub StandsBy : Bool → Bool → Machine (List ℤ) → ℕ → ℕ → Bool → List ℤ → List ℕ → ℕ → ℕ → ℕ → Type 0
-StandsBy false b M m rows deciding keys path count i a = Stands M m rows deciding keys path count i a
-StandsBy true true M m rows deciding keys path count i a = FoundAt M m rows deciding keys path count i a
-StandsBy true false M m rows deciding keys path count i a = FullAt M m rows deciding keys path count i a
+abbrev pub StandsBy : Bool → Bool → Machine (List ℤ) → Plan → List ℤ → List ℕ → Stand → Type 0
+StandsBy false b M plan keys path s = Stands M plan keys path s
+StandsBy true true M plan keys path s = FoundAt M plan keys path s
+StandsBy true false M plan keys path s = FullAt M plan keys path s
+
+pub stands-as : (M : Machine (List ℤ)) (plan : Plan) (keys : List ℤ) (path : List ℕ) (s : Stand) {b c : Bool} → s .stopped ≡ b → s .accepted ≡ c
+    → StandsBy (s .stopped) (s .accepted) M plan keys path s → StandsBy b c M plan keys path s
+stands-as M plan keys path s {c = c} e f t =
+    subst (λ (x : Bool). StandsBy x c M plan keys path s) e (subst (λ (x : Bool). StandsBy (s .stopped) x M plan keys path s) f t)
 
 -- from the areas of before, with count₀ rows, to s
-pub record Went (M : Machine (List ℤ)) (m rows : ℕ) (deciding : Bool) (keys₀ : List ℤ) (path₀ : List ℕ) (count₀ : ℕ) (keys : List ℤ) (path : List ℕ) (s : Stand) : Type 0 where
+pub record Went (M : Machine (List ℤ)) (plan : Plan) (count₀ : ℕ) (keys₀ : List ℤ) (path₀ : List ℕ) (keys : List ℤ) (path : List ℕ) (s : Stand) : Type 0 where
   pub more : count₀ ≤ s .count
-  pub kept : Kept m deciding (s .count) keys₀ path₀ keys path
-  pub there : StandsBy (s .stopped) (s .accepted) M m rows deciding keys path (s .count) (s .row) (s .letter)
+  pub kept : Kept (plan .width) (plan .noting) (s .count) keys₀ path₀ keys path
+  pub there : StandsBy (s .stopped) (s .accepted) M plan keys path s
 
--- once letter a of row i is tried
-pub record Tried (M : Machine (List ℤ)) (m rows : ℕ) (deciding : Bool) (keys₀ : List ℤ) (path₀ : List ℕ) (count₀ i a : ℕ) (keys : List ℤ) (path head next : List ℕ) (s : Stand) : Type 0 where
-  pub went : Went M m rows deciding keys₀ path₀ count₀ keys path s
-  pub linked : s .stopped ≡ false → Linked m rows keys head next (s .count)
-  pub on : s .stopped ≡ false → i * 64 + a < s .row * 64 + s .letter
+-- how far it has come
+abbrev pub place : Stand → ℕ
+place s = s .row * 64 + s .letter
 
--- once exploring has ended
-pub record Ended (M : Machine (List ℤ)) (m rows : ℕ) (deciding : Bool) (keys₀ : List ℤ) (path₀ : List ℕ) (count₀ : ℕ) (keys : List ℤ) (path : List ℕ) (s : Stand) : Type 0 where
-  pub went : Went M m rows deciding keys₀ path₀ count₀ keys path s
+-- once a letter is tried where `from` stands, or the letters that are left of its row
+pub record Tried (M : Machine (List ℤ)) (plan : Plan) (from : Stand) (keys₀ : List ℤ) (path₀ : List ℕ) (keys : List ℤ) (path links : List ℕ) (s : Stand) : Type 0 where
+  pub went : Went M plan (from .count) keys₀ path₀ keys path s
+  pub linked : s .stopped ≡ false → Linked plan keys links (s .count)
+  pub on : s .stopped ≡ false → place from < place s
+
+-- the rows that were there are as they were
+abbrev pub FrontStays : Plan → Stand → List ℤ → List ℤ → Type 0
+FrontStays plan s keys₀ keys = take (s .count * plan .width) keys ≡ take (s .count * plan .width) keys₀
+
+-- once exploring has ended: where it has not stopped, every row is expanded, and the index has them all
+pub record Ended (M : Machine (List ℤ)) (plan : Plan) (count₀ : ℕ) (keys₀ : List ℤ) (path₀ : List ℕ) (keys : List ℤ) (path : List ℕ) (s : Stand) : Type 0 where
+  pub went : Went M plan count₀ keys₀ path₀ keys path s
   pub all : s .stopped ≡ false → s .count ≤ s .row
 
--- row count has the key's first m cells, and is indexed; and whether it accepts, where that is asked
-pub record RowAdded (codes kinds : List ℕ) (m : ℕ) (deciding : Bool) (key : List ℤ) (count i a : ℕ) (keys₀ : List ℤ) (path₀ : List ℕ) (keys : List ℤ) (path head next : List ℕ) (r : Bool) : Type 0 where
-  pub stored : Stored m deciding count key i a keys₀ path₀ keys path
-  pub indexed : Indexed keys m head next (count + 1)
-  pub says : r ≡ deciding && formulaWorth (map nodeOf codes) (worthCells kinds m (take m key) 0)
+-- ---- a row that is added
 
--- what row count, numbered from letter a of row i, asks besides room in the areas
-pub record RowFits (codes next : List ℕ) (count i a : ℕ) : Type 0 where
-  pub codes-whole : length codes ≡ 64
-  pub number : count < 65535
-  pub link : count < length next
-  pub from : i < 65535
-  pub letter : a < 64
+-- what the next row, numbered from where s stands, asks
+pub record RowFits (plan : Plan) (s : Stand) (key keys : List ℤ) (path links : List ℕ) : Type 0 where
+  pub room : RowRoom (plan .width) (plan .noting) (s .count) key keys path
+  pub is-key : Key (plan .width) key
+  pub number : s .count < 65535
+  pub link : s .count < buckets links
+  pub from : s .row < 65535
+  pub letter : s .letter < 64
+
+-- it has the key's cells, and is indexed; and whether it accepts, where that is tested
+pub record RowAdded (plan : Plan) (s : Stand) (key keys₀ : List ℤ) (path₀ : List ℕ) (keys : List ℤ) (path links : List ℕ) (r : Bool) : Type 0 where
+  pub stored : Stored (plan .width) (plan .noting) (s .count) key (s .row) (s .letter) keys₀ path₀ keys path
+  pub indexed : Indexed keys (plan .width) links (s .count + 1)
+  pub says : r ≡ plan .testing && truthAt (plan .truths) (worthCells (plan .kinds) key)
+
+-- ---- the two stages
+
+-- the same plan in so many rows
+abbrev pub withRows : Plan → ℕ → Plan
+withRows plan rows = record {
+  kinds = plan .kinds;
+  width = plan .width;
+  letters = plan .letters;
+  rows = rows;
+  noting = plan .noting;
+  testing = plan .testing;
+  truths = plan .truths;
+  fresh = plan .fresh;
+}
+
+-- at a letter of a row that is to be tried
+abbrev pub goingAt : ℕ → ℕ → ℕ → Stand
+goingAt count row letter = record { count = count; row = row; letter = letter; stopped = false; accepted = false }
 
 -- whether exploring with few rows stopped for want of rows, and there are more
 pub record Lacks (few rows : ℕ) (s : Stand) (r : Bool) : Type 0 where

@@ -6,12 +6,13 @@ use mathlib.Core.Path.{_≡_, refl, sym, ap, _∙_}
 use mathlib.Core.Logic.{by-cases}
 use mathlib.Core.Bool.{Bool, false, not, _&&_, _||_}
 use mathlib.Core.List.{List, [], _∷_, map}
-use lib.ListN.{getD, drop, length-map, drop-of-length-le}
+use lib.ListN.{length, getD, drop, length-map, drop-of-length-le, List·getD-eq-default}
 use lib.Seq.{getD-drop, drop-drop}
 use borrow.Author.Tests.{ne-eqb}
 use Rattle.scope.specs.Question.{Kind, equation, atMost, Node, unused, atom, nodeOf}
 use Rattle.scope.specs.States.{Settled, settled}
 use Rattle.formula.specs.declared.Part.{Part}
+use Rattle.formula.specs.Truths.{truthAt, WordsOf}
 use Rattle.formula.specs.Parts.{Placed, Settles, meant, node-first}
 
 -- ---- codes
@@ -62,90 +63,93 @@ module _ (d : ℕ) (xs : List Node) (ws : List Bool) where
 
 -- ---- by places: a part of the depth left and the node's place
 
-module _ {codes : List ℕ} {worths : List Bool} {node atom : ℕ} (g : Placed codes worths node atom) where
-  opened : {depth : ℕ} (x : Node) (ws : List Bool) → (depth ≡ 0 → ⊥) → (node ≡ 64 → ⊥) → nodeOf (getD codes node 0) ≡ x → settled depth (drop node (map nodeOf codes)) ws ≡ settled (suc (depth - 1)) (x ∷ drop (node + 1) (map nodeOf codes)) ws
-  opened {depth} x ws d n e =
+module _ {codes : List ℕ} {node atom depth : ℕ} (g : Placed codes node atom) where
+  opened : (x : Node) (ws : List Bool) → (depth ≡ 0 → ⊥) → (node ≡ 64 → ⊥) → nodeOf (getD codes node 0) ≡ x → settled depth (drop node (map nodeOf codes)) ws ≡ settled (suc (depth - 1)) (x ∷ drop (node + 1) (map nodeOf codes)) ws
+  opened x ws d n e =
       let h : depth ≡ suc (depth - 1) = omega arith in
       let f : drop node (map nodeOf codes) ≡ x ∷ drop (node + 1) (map nodeOf codes) = node-first codes node (omega (arith, g .codes-whole, g .node-within)) ∙ ap (λ (y : Node). y ∷ drop (node + 1) (map nodeOf codes)) e in
       λ i. settled (h i) (f i) ws
 
-  pub too-deep : {depth : ℕ} → depth ≡ 0 → Settles codes worths node atom depth (record { truth = false; node = node; atom = atom })
-  too-deep d = record {
-    part = (λ i. settled (d i) (drop node (map nodeOf codes)) (drop atom worths)) ∙ deep-part 0 (drop node (map nodeOf codes)) (drop atom worths);
-    node-after = g .node-within;
+  -- a part that is false for all the worths, and takes no atom
+  ends : {none : List ℕ} {after : ℕ} → WordsOf (λ ws. false) none → after ≤ 64 → ((ws : List Bool) → settled depth (drop node (map nodeOf codes)) ws ≡ record { truth = false; nodes = drop after (map nodeOf codes); worths = ws }) → Settles codes node atom depth (record { truths = none; node = after; atom = atom })
+  ends {none} {after} z l h = record {
+    four = z .four;
+    part = λ ws e. h (drop atom ws) ∙ (λ i. record { truth = sym (z .says ws e) i; nodes = drop after (map nodeOf codes); worths = drop atom ws });
+    node-after = l;
     atom-after = g .atom-within;
   }
 
-  pub past-the-end : {depth : ℕ} → (depth ≡ 0 → ⊥) → node ≡ 64 → Settles codes worths node atom depth (record { truth = false; node = node; atom = atom })
-  past-the-end {depth} d n =
+  pub too-deep : {none : List ℕ} → WordsOf (λ ws. false) none → depth ≡ 0 → Settles codes node atom depth (record { truths = none; node = node; atom = atom })
+  too-deep z d = ends z (g .node-within) (λ ws. (λ i. settled (d i) (drop node (map nodeOf codes)) ws) ∙ deep-part 0 (drop node (map nodeOf codes)) ws)
+
+  pub past-the-end : {none : List ℕ} → WordsOf (λ ws. false) none → (depth ≡ 0 → ⊥) → node ≡ 64 → Settles codes node atom depth (record { truths = none; node = node; atom = atom })
+  past-the-end z d n =
       let h : depth ≡ suc (depth - 1) = omega arith in
       let e : drop node (map nodeOf codes) ≡ [] = drop-of-length-le (map nodeOf codes) {i = node} (omega (arith, length-map codes nodeOf, g .codes-whole)) in
-      record {
-        part = (λ i. settled (h i) (e i) (drop atom worths)) ∙ cut-part (depth - 1) [] (drop atom worths) ∙ (λ i. record { truth = false; nodes = sym e i; worths = drop atom worths });
-        node-after = g .node-within;
-        atom-after = g .atom-within;
-      }
+      ends z (g .node-within) (λ ws. (λ i. settled (h i) (e i) ws) ∙ cut-part (depth - 1) [] ws ∙ (λ i. record { truth = false; nodes = sym e i; worths = ws }))
 
-  pub settles-unused : {depth : ℕ} → (depth ≡ 0 → ⊥) → (node ≡ 64 → ⊥) → nodeOf (getD codes node 0) ≡ unused → Settles codes worths node atom depth (record { truth = false; node = node + 1; atom = atom })
-  settles-unused {depth} d n e = record {
-    part = opened unused (drop atom worths) d n e ∙ unused-part (depth - 1) (drop (node + 1) (map nodeOf codes)) (drop atom worths);
+  pub settles-unused : {none : List ℕ} → WordsOf (λ ws. false) none → (depth ≡ 0 → ⊥) → (node ≡ 64 → ⊥) → nodeOf (getD codes node 0) ≡ unused → Settles codes node atom depth (record { truths = none; node = node + 1; atom = atom })
+  settles-unused z d n e = ends z (omega (arith, g .node-within)) (λ ws. opened unused ws d n e ∙ unused-part (depth - 1) (drop (node + 1) (map nodeOf codes)) ws)
+
+  -- an atom's node
+  reads : (ws : List Bool) → (depth ≡ 0 → ⊥) → (node ≡ 64 → ⊥) → 1 ≤ getD codes node 0 → getD codes node 0 < 3 → settled depth (drop node (map nodeOf codes)) (drop atom ws) ≡ record { truth = getD ws atom false; nodes = drop (node + 1) (map nodeOf codes); worths = drop (atom + 1) ws }
+  reads ws d n low high =
+      let κ = atom-code (getD codes node 0) low high in
+      let t : getD (drop atom ws) 0 false ≡ getD ws atom false = getD-drop atom ws 0 false ∙ ap (λ (k : ℕ). getD ws k false) (omega arith) in
+      opened (Node.atom (κ .0)) (drop atom ws) d n (κ .1) ∙
+      atom-part (depth - 1) (drop (node + 1) (map nodeOf codes)) (drop atom ws) (κ .0) ∙
+      (λ i. record { truth = t i; nodes = drop (node + 1) (map nodeOf codes); worths = drop-drop 1 atom ws i })
+
+  -- the atoms have run out
+  pub settles-none : {none : List ℕ} → WordsOf (λ ws. false) none → (depth ≡ 0 → ⊥) → (node ≡ 64 → ⊥) → 1 ≤ getD codes node 0 → getD codes node 0 < 3 → atom ≡ 8 → Settles codes node atom depth (record { truths = none; node = node + 1; atom = atom })
+  settles-none {none} z d n low high a = record {
+    four = z .four;
+    part = λ ws e.
+        let past : length ws ≤ atom = omega (arith, e) in
+        let f : getD ws atom false ≡ truthAt none ws = List·getD-eq-default ws false past ∙ sym (z .says ws e) in
+        let r : drop (atom + 1) ws ≡ drop atom ws = drop-of-length-le ws {i = atom + 1} (omega (arith, past)) ∙ sym (drop-of-length-le ws {i = atom} past) in
+        reads ws d n low high ∙ (λ i. record { truth = f i; nodes = drop (node + 1) (map nodeOf codes); worths = r i });
     node-after = omega (arith, g .node-within);
     atom-after = g .atom-within;
   }
 
-  -- the atoms have run out
-  pub settles-none : {depth : ℕ} → (depth ≡ 0 → ⊥) → (node ≡ 64 → ⊥) → 1 ≤ getD codes node 0 → getD codes node 0 < 3 → atom ≡ 8 → Settles codes worths node atom depth (record { truth = false; node = node + 1; atom = atom })
-  settles-none {depth} d n low high a =
-      let κ = atom-code (getD codes node 0) low high in
-      let e : drop atom worths ≡ [] = drop-of-length-le worths {i = atom} (omega (arith, g .worths-whole)) in
-      record {
-        part =
-            opened (Node.atom (κ .0)) (drop atom worths) d n (κ .1) ∙
-            atom-part (depth - 1) (drop (node + 1) (map nodeOf codes)) (drop atom worths) (κ .0) ∙
-            (λ i. record { truth = getD (e i) 0 false; nodes = drop (node + 1) (map nodeOf codes); worths = drop 1 (e i) }) ∙
-            (λ i. record { truth = false; nodes = drop (node + 1) (map nodeOf codes); worths = sym e i });
-        node-after = omega (arith, g .node-within);
-        atom-after = g .atom-within;
-      }
+  pub settles-atom : {words : List ℕ} → WordsOf (λ ws. getD ws atom false) words → (depth ≡ 0 → ⊥) → (node ≡ 64 → ⊥) → 1 ≤ getD codes node 0 → getD codes node 0 < 3 → (atom ≡ 8 → ⊥) → Settles codes node atom depth (record { truths = words; node = node + 1; atom = atom + 1 })
+  settles-atom w d n low high a = record {
+    four = w .four;
+    part = λ ws e. reads ws d n low high ∙ (λ i. record { truth = sym (w .says ws e) i; nodes = drop (node + 1) (map nodeOf codes); worths = drop (atom + 1) ws });
+    node-after = omega (arith, g .node-within);
+    atom-after = omega (arith, g .atom-within);
+  }
 
-  pub settles-atom : {depth : ℕ} → (depth ≡ 0 → ⊥) → (node ≡ 64 → ⊥) → 1 ≤ getD codes node 0 → getD codes node 0 < 3 → (atom ≡ 8 → ⊥) → Settles codes worths node atom depth (record { truth = getD worths atom false; node = node + 1; atom = atom + 1 })
-  settles-atom {depth} d n low high a =
-      let κ = atom-code (getD codes node 0) low high in
-      let t : getD (drop atom worths) 0 false ≡ getD worths atom false = getD-drop atom worths 0 false ∙ ap (λ (k : ℕ). getD worths k false) (omega arith) in
-      record {
-        part =
-            opened (Node.atom (κ .0)) (drop atom worths) d n (κ .1) ∙
-            atom-part (depth - 1) (drop (node + 1) (map nodeOf codes)) (drop atom worths) (κ .0) ∙
-            (λ i. record { truth = t i; nodes = drop (node + 1) (map nodeOf codes); worths = drop-drop 1 atom worths i });
-        node-after = omega (arith, g .node-within);
-        atom-after = omega (arith, g .atom-within);
-      }
-
-  pub settles-not : {depth : ℕ} {p : Part} → (depth ≡ 0 → ⊥) → (node ≡ 64 → ⊥) → getD codes node 0 ≡ 3 → Settles codes worths (node + 1) atom (depth - 1) p → Settles codes worths node atom depth (record { truth = not (p .truth); node = p .node; atom = p .atom })
-  settles-not {depth} {p} d n e s = record {
-    part =
-        opened Node.not (drop atom worths) d n (ap nodeOf e) ∙
-        not-part (depth - 1) (drop (node + 1) (map nodeOf codes)) (drop atom worths) (meant codes worths p) (s .part);
+  pub settles-not : {p : Part} {words : List ℕ} → WordsOf (λ ws. not (truthAt (p .truths) ws)) words → (depth ≡ 0 → ⊥) → (node ≡ 64 → ⊥) → getD codes node 0 ≡ 3 → Settles codes (node + 1) atom (depth - 1) p → Settles codes node atom depth (record { truths = words; node = p .node; atom = p .atom })
+  settles-not {p} w d n c s = record {
+    four = w .four;
+    part = λ ws e.
+        opened Node.not (drop atom ws) d n (ap nodeOf c) ∙
+        not-part (depth - 1) (drop (node + 1) (map nodeOf codes)) (drop atom ws) (meant codes ws p) (s .part ws e) ∙
+        (λ i. record { truth = sym (w .says ws e) i; nodes = drop (p .node) (map nodeOf codes); worths = drop (p .atom) ws });
     node-after = s .node-after;
     atom-after = s .atom-after;
   }
 
-  pub settles-and : {depth : ℕ} {p r : Part} {b : Bool} → (depth ≡ 0 → ⊥) → (node ≡ 64 → ⊥) → getD codes node 0 ≡ 4 → Settles codes worths (node + 1) atom (depth - 1) p → Settles codes worths (p .node) (p .atom) (depth - 1) r → p .truth && r .truth ≡ b → Settles codes worths node atom depth (record { truth = b; node = r .node; atom = r .atom })
-  settles-and {depth} {p} {r} {b} d n e s t f = record {
-    part =
-        opened Node.and (drop atom worths) d n (ap nodeOf e) ∙
-        and-part (depth - 1) (drop (node + 1) (map nodeOf codes)) (drop atom worths) (meant codes worths p) (meant codes worths r) (s .part) (t .part) ∙
-        (λ i. record { truth = f i; nodes = drop (r .node) (map nodeOf codes); worths = drop (r .atom) worths });
+  pub settles-and : {p r : Part} {words : List ℕ} → WordsOf (λ ws. truthAt (p .truths) ws && truthAt (r .truths) ws) words → (depth ≡ 0 → ⊥) → (node ≡ 64 → ⊥) → getD codes node 0 ≡ 4 → Settles codes (node + 1) atom (depth - 1) p → Settles codes (p .node) (p .atom) (depth - 1) r → Settles codes node atom depth (record { truths = words; node = r .node; atom = r .atom })
+  settles-and {p} {r} w d n c s t = record {
+    four = w .four;
+    part = λ ws e.
+        opened Node.and (drop atom ws) d n (ap nodeOf c) ∙
+        and-part (depth - 1) (drop (node + 1) (map nodeOf codes)) (drop atom ws) (meant codes ws p) (meant codes ws r) (s .part ws e) (t .part ws e) ∙
+        (λ i. record { truth = sym (w .says ws e) i; nodes = drop (r .node) (map nodeOf codes); worths = drop (r .atom) ws });
     node-after = t .node-after;
     atom-after = t .atom-after;
   }
 
-  pub settles-or : {depth : ℕ} {p r : Part} {b : Bool} → (depth ≡ 0 → ⊥) → (node ≡ 64 → ⊥) → getD codes node 0 ≡ 5 → Settles codes worths (node + 1) atom (depth - 1) p → Settles codes worths (p .node) (p .atom) (depth - 1) r → p .truth || r .truth ≡ b → Settles codes worths node atom depth (record { truth = b; node = r .node; atom = r .atom })
-  settles-or {depth} {p} {r} {b} d n e s t f = record {
-    part =
-        opened Node.or (drop atom worths) d n (ap nodeOf e) ∙
-        or-part (depth - 1) (drop (node + 1) (map nodeOf codes)) (drop atom worths) (meant codes worths p) (meant codes worths r) (s .part) (t .part) ∙
-        (λ i. record { truth = f i; nodes = drop (r .node) (map nodeOf codes); worths = drop (r .atom) worths });
+  pub settles-or : {p r : Part} {words : List ℕ} → WordsOf (λ ws. truthAt (p .truths) ws || truthAt (r .truths) ws) words → (depth ≡ 0 → ⊥) → (node ≡ 64 → ⊥) → getD codes node 0 ≡ 5 → Settles codes (node + 1) atom (depth - 1) p → Settles codes (p .node) (p .atom) (depth - 1) r → Settles codes node atom depth (record { truths = words; node = r .node; atom = r .atom })
+  settles-or {p} {r} w d n c s t = record {
+    four = w .four;
+    part = λ ws e.
+        opened Node.or (drop atom ws) d n (ap nodeOf c) ∙
+        or-part (depth - 1) (drop (node + 1) (map nodeOf codes)) (drop atom ws) (meant codes ws p) (meant codes ws r) (s .part ws e) (t .part ws e) ∙
+        (λ i. record { truth = sym (w .says ws e) i; nodes = drop (r .node) (map nodeOf codes); worths = drop (r .atom) ws });
     node-after = t .node-after;
     atom-after = t .atom-after;
   }

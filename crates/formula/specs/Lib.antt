@@ -1,3 +1,4 @@
--- The formula's worth as the code settles it, and that worths which read alike settle alike.
+-- The formula's truths as the code settles them, and that worths which read alike settle alike.
+pub mod Truths
 pub mod Parts
 pub mod Alike

@@ -10,21 +10,22 @@ use lib.Seq.{drop-cons}
 use Rattle.scope.specs.Question.{unused, nodeOf}
 use Rattle.scope.specs.States.{Settled, settled}
 use Rattle.formula.specs.declared.Part.{Part}
+use Rattle.formula.specs.Truths.{truthAt}
 
--- whole arrays, and a node and an atom in them or at their ends
-pub record Placed (codes : List ℕ) (worths : List Bool) (node atom : ℕ) : Type 0 where
+-- all codes, and a node and an atom among 64 and 8 or at their ends
+pub record Placed (codes : List ℕ) (node atom : ℕ) : Type 0 where
   pub codes-whole : length codes ≡ 64
-  pub worths-whole : length worths ≡ 8
   pub node-within : node ≤ 64
   pub atom-within : atom ≤ 8
 
 -- the definition's part, of which the code has the places
 abbrev pub meant : List ℕ → List Bool → Part → Settled
-meant codes worths p = record { truth = p .truth; nodes = drop (p .node) (map nodeOf codes); worths = drop (p .atom) worths }
+meant codes worths p = record { truth = truthAt (p .truths) worths; nodes = drop (p .node) (map nodeOf codes); worths = drop (p .atom) worths }
 
--- the part that starts at a node and an atom, at most depth deep, is p
-pub record Settles (codes : List ℕ) (worths : List Bool) (node atom depth : ℕ) (p : Part) : Type 0 where
-  pub part : settled depth (drop node (map nodeOf codes)) (drop atom worths) ≡ meant codes worths p
+-- the part that starts at a node and an atom, at most depth deep, is p, whatever the atoms are worth
+pub record Settles (codes : List ℕ) (node atom depth : ℕ) (p : Part) : Type 0 where
+  pub four : length (p .truths) ≡ 4
+  pub part : (worths : List Bool) → length worths ≡ 8 → settled depth (drop node (map nodeOf codes)) (drop atom worths) ≡ meant codes worths p
   pub node-after : p .node ≤ 64
   pub atom-after : p .atom ≤ 8
 

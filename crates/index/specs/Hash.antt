@@ -1,6 +1,8 @@
 -- The bucket of a row's cells, of n buckets. Nothing depends on its quality but speed.
 use mathlib.Core.List.{List}
-use Prim.Native.Nat.{ℕ, _+_, _*_, _/_, _%_}
+use Prim.Native.Nat.{ℕ, _+_, _*_, _/_, _%_, _<_}
+use native.Mathlib.Nat.{mul-lt-mul-of-pos-right}
+use native.Mathlib.Omega.{arith}
 use lib.ListN.{getD}
 use lib.IntN.{ℤ, pos, _+ℤ_, natAbs}
 
@@ -15,8 +17,8 @@ codeAt cells i = codeOf (getD cells i (pos 0))
 -- the sum of eight cells' codes, each by an odd number below 2 ^ 29 of its own
 abbrev pub summed : List ℤ → ℕ
 summed cells =
-    (codeAt cells 0 * 506952111 + codeAt cells 1 * 63613195 + codeAt cells 2 * 381195351 + codeAt cells 3 * 9835859)
-    + (codeAt cells 4 * 98882751 + codeAt cells 5 * 240854619 + codeAt cells 6 * 33150183 + codeAt cells 7 * 13737507)
+    (codeAt cells 0 * 89724889 + codeAt cells 1 * 172061623 + codeAt cells 2 * 224255185 + codeAt cells 3 * 272266025)
+    + (codeAt cells 4 * 503303631 + codeAt cells 5 * 35946965 + codeAt cells 6 * 248913303 + codeAt cells 7 * 379851821)
 
 -- the halves of a number, added
 abbrev pub folded : ℕ → ℕ
@@ -28,3 +30,13 @@ hashOf cells = folded (summed cells) % 4294967296
 -- the hash is below 2 ^ 32, and its highest bits count
 unfoldable pub bucketOf : ℕ → List ℤ → ℕ
 bucketOf n cells = hashOf cells * n / 4294967296
+
+pub hash-low : (cells : List ℤ) → hashOf cells < 4294967296
+unfolding hashOf
+hash-low cells = omega arith
+
+pub bucket-low : (n : ℕ) (cells : List ℤ) → 0 < n → bucketOf n cells < n
+unfolding bucketOf
+bucket-low n cells some =
+    let scaled : hashOf cells * n < 4294967296 * n = mul-lt-mul-of-pos-right (hash-low cells) some in
+    omega (arith, scaled)

@@ -1,62 +1,84 @@
 // The index over numbered rows of key cells: it finds the row that has a key's cells without looking at every row, so exploring is linear.
-// The rows of a bucket are chained newest first: `head` has each bucket's newest row, and `next` for each row the newest before it.
+// The rows of a bucket are chained newest first. The chains are one lent slice, `links`, of two parts: with n, half its length, buckets,
+// links[b] is bucket b's newest row, and links[n + r] the newest row before r of r's bucket.
 use scope::Question;
 ghost use mathlib.Core.Path.{_≡_};
+ghost use mathlib.Core.Bool.{not};
 ghost use Prim.Native.Nat.{_+_, _*_, _≤_, _<_};
-ghost use lib.ListN.{length, getD, set, take};
+ghost use lib.ListN.{length, take};
 ghost use lib.Seq.{paste};
 ghost use Rattle.index.specs.Rows.{rowAt};
 ghost use Rattle.index.specs.Hash.{codeOf, hashOf, bucketOf};
-ghost use Rattle.index.specs.Index.{Key, Says, Indexed, Finds, Room, Sized, Added};
+ghost use Rattle.index.specs.Chains.{linked};
+ghost use Rattle.index.specs.Index.{buckets, Key, Says, Agree, Indexed, Finds, Room, Sized, Added};
 
 // No row: the link of a bucket that has none, and of a bucket's oldest row. Where every bucket has it, no row is indexed.
 // It is the first number that no row can have.
 pub const NONE: u16 = Question::STATES as u16;
 
-// A cell as a number that is not negative.
+// A cell as a number that is not negative. By way of 32 bits, so that the compiler sees that it has no more, and multiplies two cells at once.
 fn code(x: i32) -> usize
     ensures { λ r. ⌜ (r ≡ codeOf x) × (r < 4294967296) ⌝ }
 {
-    (x as i64 + 2_147_483_648) as usize
+    (x as i64 + 2_147_483_648) as u32 as usize
 }
 
-// The hash of a key: the codes of its cells, each by an odd number of its own, are added up, and then the halves of the sum. The products are
-// all under way at once, and there is no test, since past a row's own cells a key has 0. Chains are about as
-// short as by chance for rows of small numbers and dead cells.
+// The hash of a key: the codes of its cells, each by an odd number of its own, are added up, and then the halves of the sum: a dead cell and
+// 0 differ by 2 ^ 31, which a sum of 32 bits would tell apart only by its highest bit. There is no test, since past a row's own cells a key
+// has 0. Chains are about as short as by chance for rows of small numbers and dead cells.
 fn hash(key: &[i32; Question::ATOMS]) -> usize
     requires { ⌜ length (now key) ≡ 8 ⌝ }
     ensures { λ r. ⌜ (r ≡ hashOf (now (key .entry))) × (r < 4294967296) ⌝ }
 {
-    let low = code(key[0]) * 506_952_111
-        + code(key[1]) * 63_613_195
-        + code(key[2]) * 381_195_351
-        + code(key[3]) * 9_835_859;
-    let high = code(key[4]) * 98_882_751
-        + code(key[5]) * 240_854_619
-        + code(key[6]) * 33_150_183
-        + code(key[7]) * 13_737_507;
+    let low = code(key[0]) * 89_724_889
+        + code(key[1]) * 172_061_623
+        + code(key[2]) * 224_255_185
+        + code(key[3]) * 272_266_025;
+    let high = code(key[4]) * 503_303_631
+        + code(key[5]) * 35_946_965
+        + code(key[6]) * 248_913_303
+        + code(key[7]) * 379_851_821;
     let sum = low + high;
     (sum % 4_294_967_296 + sum / 4_294_967_296) % 4_294_967_296
 }
 
 // The bucket, of n, of a key.
-fn bucket(key: &[i32; Question::ATOMS], n: usize) -> usize
+pub fn bucket(key: &[i32; Question::ATOMS], n: usize) -> usize
     requires { ⌜ (length (now key) ≡ 8) × (0 < n) × (n ≤ 65536) ⌝ }
     ensures { λ r. ⌜ (r ≡ bucketOf n (now (key .entry))) × (r < n) ⌝ }
 {
     hash(key) * n / 4_294_967_296
 }
 
-// Whether the row has the key's first m cells. The loop's length is fixed, so that it is laid out flat.
-fn same_row(keys: &[i32], m: usize, row: usize, key: &[i32; Question::ATOMS]) -> bool
-    requires { ⌜ (m ≤ 8) × (m ≤ length (now key)) × (row * m + m ≤ length (now keys)) ⌝ }
-    ensures { λ r. ⌜ Says r (rowAt (now (keys .entry)) m row ≡ take m (now (key .entry))) ⌝ }
+// Whether one of the four cells from `base` on is not the key's: all four are compared at once.
+fn fronts_differ(keys: &[i32], base: usize, key: &[i32; Question::ATOMS]) -> bool
+    requires { ⌜ (base + 4 ≤ length (now keys)) × (length (now key) ≡ 8) ⌝ }
+    ensures { λ r. ⌜ Says (not r) (Agree (now (keys .entry)) base (now (key .entry)) 4) ⌝ }
 {
-    let base = row * m;
+    (keys[base] != key[0])
+        | (keys[base + 1] != key[1])
+        | (keys[base + 2] != key[2])
+        | (keys[base + 3] != key[3])
+}
+
+// Whether the row has the key's first `width` cells. The loop's length is fixed, so that it is laid out flat.
+pub fn same_row(keys: &[i32], width: usize, row: usize, key: &[i32; Question::ATOMS]) -> bool
+    requires { ⌜ (width ≤ 8) × (length (now key) ≡ 8) × (row * width + width ≤ length (now keys)) ⌝ }
+    ensures { λ r. ⌜ Says r (rowAt (now (keys .entry)) width row ≡ take width (now (key .entry))) ⌝ }
+{
+    let base = row * width;
+    let mut from = 0;
+    if 4 <= width {
+        if fronts_differ(keys, base, key) {
+            return false;
+        }
+        from = 4;
+    }
     let mut i = 0;
-    while i < Question::ATOMS {
-        if i < m {
-            if keys[base + i] != key[i] {
+    while i < 4 {
+        let at = from + i;
+        if at < width {
+            if keys[base + at] != key[at] {
                 return false;
             }
         }
@@ -65,39 +87,39 @@ fn same_row(keys: &[i32], m: usize, row: usize, key: &[i32; Question::ATOMS]) ->
     true
 }
 
-// The row below count that has the key's first m cells, or count where there is none.
+// The row below count that has the key's first `width` cells, or count where there is none.
 pub fn find(
     keys: &[i32],
-    m: usize,
+    width: usize,
     key: &[i32; Question::ATOMS],
-    head: &[u16],
-    next: &[u16],
+    links: &[u16],
     count: usize,
 ) -> usize
-    requires { ⌜ Indexed (now keys) m (now head) (now next) count ⌝ }
-    requires { ⌜ Key m (now key) ⌝ }
-    ensures { λ r. ⌜ Finds (now (keys .entry)) m (now (key .entry)) count r ⌝ }
+    requires { ⌜ Indexed (now keys) width (now links) count ⌝ }
+    requires { ⌜ Key width (now key) ⌝ }
+    ensures { λ r. ⌜ Finds (now (keys .entry)) width (now (key .entry)) count r ⌝ }
 {
-    let b = bucket(key, head.len());
-    let mut link = head[b];
+    let n = links.len() / 2;
+    let b = bucket(key, n);
+    let mut link = links[b];
     while link != NONE {
         let row = link as usize;
-        if same_row(keys, m, row, key) {
+        if same_row(keys, width, row, key) {
             return row;
         }
-        link = next[row];
+        link = links[n + row];
     }
     count
 }
 
-// Stores the key's first m cells as the row's.
-pub fn store_row(keys: &mut [i32], m: usize, row: usize, key: &[i32; Question::ATOMS])
-    requires { ⌜ (m ≤ 8) × (m ≤ length (now key)) × (row * m + m ≤ length (now keys)) ⌝ }
-    ensures { λ _. ⌜ now (keys .exit) ≡ paste (now (keys .entry)) (row * m) (now (key .entry)) m ⌝ }
+// Stores the key's first `width` cells as the row's.
+pub fn store_row(keys: &mut [i32], width: usize, row: usize, key: &[i32; Question::ATOMS])
+    requires { ⌜ (width ≤ 8) × (width ≤ length (now key)) × (row * width + width ≤ length (now keys)) ⌝ }
+    ensures { λ _. ⌜ now (keys .exit) ≡ paste (now (keys .entry)) (row * width) (now (key .entry)) width ⌝ }
 {
-    let base = row * m;
+    let base = row * width;
     let mut i = 0;
-    while i < m {
+    while i < width {
         let x = key[i];
         keys[base + i] = x;
         i += 1;
@@ -105,14 +127,14 @@ pub fn store_row(keys: &mut [i32], m: usize, row: usize, key: &[i32; Question::A
 }
 
 // The row's cells as a key, with 0 past them.
-fn load_row(keys: &[i32], m: usize, row: usize) -> [i32; Question::ATOMS]
-    requires { ⌜ (m ≤ 8) × (row * m + m ≤ length (now keys)) ⌝ }
-    ensures { λ r. ⌜ (take m r ≡ rowAt (now (keys .entry)) m row) × Key m r ⌝ }
+pub fn load_row(keys: &[i32], width: usize, row: usize) -> [i32; Question::ATOMS]
+    requires { ⌜ (width ≤ 8) × (row * width + width ≤ length (now keys)) ⌝ }
+    ensures { λ r. ⌜ (take width r ≡ rowAt (now (keys .entry)) width row) × Key width r ⌝ }
 {
-    let base = row * m;
+    let base = row * width;
     let mut key = [0i32; Question::ATOMS];
     let mut i = 0;
-    while i < m {
+    while i < width {
         let x = keys[base + i];
         key[i] = x;
         i += 1;
@@ -120,61 +142,45 @@ fn load_row(keys: &[i32], m: usize, row: usize) -> [i32; Question::ATOMS]
     key
 }
 
-// Links row count before the rows of bucket b.
-fn link(head: &mut [u16], next: &mut [u16], b: usize, count: usize)
-    requires { ⌜ (b < length (now head)) × (count < length (now next)) × (count < 65535) ⌝ }
-    ensures { λ _. ⌜ (now (head .exit) ≡ set (now (head .entry)) b count) × (now (next .exit) ≡ set (now (next .entry)) count (getD (now (head .entry)) b 0)) ⌝ }
+// Links row count, which has the key's cells, before the rows of its bucket.
+fn insert(key: &[i32; Question::ATOMS], links: &mut [u16], count: usize)
+    requires { ⌜ length (now key) ≡ 8 ⌝ }
+    requires { ⌜ (count < buckets (now links)) × (buckets (now links) ≤ 65536) × (count < 65535) ⌝ }
+    ensures { λ _. ⌜ now (links .exit) ≡ linked (now (links .entry)) (bucketOf (buckets (now (links .entry))) (now (key .entry))) count ⌝ }
 {
-    next[count] = head[b];
-    head[b] = count as u16;
+    let n = links.len() / 2;
+    let b = bucket(key, n);
+    links[n + count] = links[b];
+    links[b] = count as u16;
 }
 
-// Indexes row count, which has the key's first m cells already.
-pub fn insert(
-    keys: &[i32],
-    m: usize,
-    key: &[i32; Question::ATOMS],
-    head: &mut [u16],
-    next: &mut [u16],
-    count: usize,
-)
-    requires { ⌜ Indexed (now keys) m (now head) (now next) count ⌝ }
-    requires { ⌜ Room (now keys) m (now next) count ⌝ }
-    requires { ⌜ Key m (now key) × (take m (now key) ≡ rowAt (now keys) m count) ⌝ }
-    ensures { λ _. ⌜ Indexed (now (keys .entry)) m (now (head .exit)) (now (next .exit)) (count + 1) ⌝ }
-{
-    let b = bucket(key, head.len());
-    link(head, next, b, count);
-}
-
-// Stores the key's first m cells as row count, and indexes it.
+// Stores the key's first `width` cells as row count, and indexes it.
 pub fn add(
     keys: &mut [i32],
-    m: usize,
+    width: usize,
     key: &[i32; Question::ATOMS],
-    head: &mut [u16],
-    next: &mut [u16],
+    links: &mut [u16],
     count: usize,
 )
-    requires { ⌜ Indexed (now keys) m (now head) (now next) count ⌝ }
-    requires { ⌜ Room (now keys) m (now next) count ⌝ }
-    requires { ⌜ Key m (now key) ⌝ }
-    ensures { λ _. ⌜ Added (now (keys .entry)) m (now (key .entry)) (now (keys .exit)) (now (head .exit)) (now (next .exit)) count ⌝ }
+    requires { ⌜ Indexed (now keys) width (now links) count ⌝ }
+    requires { ⌜ Room (now keys) width (now links) count ⌝ }
+    requires { ⌜ Key width (now key) ⌝ }
+    ensures { λ _. ⌜ Added (now (keys .entry)) width (now (key .entry)) (now (keys .exit)) (now (links .exit)) count ⌝ }
 {
-    store_row(keys, m, count, key);
-    insert(keys, m, key, head, next, count);
+    store_row(keys, width, count, key);
+    insert(key, links, count);
 }
 
 // Indexes the first count rows, where no row is indexed yet: as at first, or to go on with more buckets.
-pub fn insert_rows(keys: &[i32], m: usize, head: &mut [u16], next: &mut [u16], count: usize)
-    requires { ⌜ Indexed (now keys) m (now head) (now next) 0 ⌝ }
-    requires { ⌜ Sized (now keys) m (now head) (now next) count ⌝ }
-    ensures { λ _. ⌜ Indexed (now (keys .entry)) m (now (head .exit)) (now (next .exit)) count ⌝ }
+pub fn insert_rows(keys: &[i32], width: usize, links: &mut [u16], count: usize)
+    requires { ⌜ Indexed (now keys) width (now links) 0 ⌝ }
+    requires { ⌜ Sized (now keys) width (now links) count ⌝ }
+    ensures { λ _. ⌜ Indexed (now (keys .entry)) width (now (links .exit)) count ⌝ }
 {
     let mut row = 0;
     while row < count {
-        let key = load_row(keys, m, row);
-        insert(keys, m, &key, head, next, row);
+        let key = load_row(keys, width, row);
+        insert(&key, links, row);
         row += 1;
     }
 }

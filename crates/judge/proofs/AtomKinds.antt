@@ -1,48 +1,14 @@
--- Codes of atoms and their kinds, and comparisons of numbers by their bits.
+-- Codes of atoms and their kinds.
 use Prim.Native.Nat.{ℕ, _+_, _<_}
 use native.Mathlib.Omega.{arith}
-use mathlib.Core.Path.{_≡_, refl, sym, ap, _∙_}
+use mathlib.Core.Path.{_≡_, refl, ap, _∙_}
 use mathlib.Core.Bool.{Bool, true, false, cond}
 use mathlib.Core.List.{List, _∷_, map}
 use lib.ListN.{length, getD, drop}
-use lib.IntN.{ℤ}
-use lib.Dec.{T, eqb, eqb→eq, eqb-refl}
-use mir.Syntax.{w32, w64}
-use mir.Val.{SFits, toZ, ofZ}
-use mir.ValLaws.{toZ-ofZ}
-use borrow.Author.Tests.{ne-eqb}
-use Rattle.scope.specs.Whole.{eqZ}
+use lib.Dec.{eqb}
 use Rattle.scope.specs.Question.{equation, atMost, Node, unused, atom, nodeOf, isAtom, kindsOf}
-use Rattle.theory.specs.Integers.{eqZ→eq, eq→eqZ}
-use Rattle.theory.specs.Meaning.{same-test}
 use Rattle.formula.specs.Parts.{node-first}
 use Rattle.judge.specs.Atoms.{kindOfCode}
-
--- ---- numbers by their bits
-
-pub same-bits : (a b : ℤ) → SFits w64 a → SFits w64 b → eqb (ofZ w64 a) (ofZ w64 b) ≡ eqZ a b
-same-bits a b fa fb = same-test (eqb (ofZ w64 a) (ofZ w64 b)) (eqZ a b) to from
-  where
-    to : T (eqb (ofZ w64 a) (ofZ w64 b)) → T (eqZ a b)
-    to t = eq→eqZ a b (sym (toZ-ofZ w64 a fa) ∙ ap (toZ w64) (eqb→eq (ofZ w64 a) (ofZ w64 b) t) ∙ toZ-ofZ w64 b fb)
-
-    from : T (eqZ a b) → T (eqb (ofZ w64 a) (ofZ w64 b))
-    from t = rw (eqZ→eq a b t) (eqb-refl (ofZ w64 b))
-
-pub widened : {z : ℤ} → SFits w32 z → SFits w64 z
-widened f = record { sfits = omega (arith, f .sfits) }
-
--- ---- codes
-
-pub other-code : (c : ℕ) → (c ≡ 1 → ⊥) → eqb c 2 ≡ isAtom (nodeOf c)
-other-code c h = rw (ne-eqb c 1 h) (by-tests (eqb c 2) (eqb c 3) (eqb c 4) (eqb c 5))
-  where
-    by-tests : (s t u v : Bool) → s ≡ isAtom (cond s (atom atMost) (cond t Node.not (cond u Node.and (cond v Node.or unused))))
-    by-tests true t u v = refl
-    by-tests false true u v = refl
-    by-tests false false true v = refl
-    by-tests false false false true = refl
-    by-tests false false false false = refl
 
 pub atom-code : (c : ℕ) → isAtom (nodeOf c) ≡ true → nodeOf c ≡ atom (kindOfCode c)
 atom-code c = by-tests (eqb c 1) (eqb c 2) (eqb c 3) (eqb c 4) (eqb c 5)

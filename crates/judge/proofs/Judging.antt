@@ -19,7 +19,7 @@ use Rattle.scope.specs.States.{satisfied}
 use Rattle.scope.specs.Running.{truthOf}
 use Rattle.scope.specs.Judging.{judgedQuestion, judgedBy, judged}
 use Rattle.theory.specs.Accepted.{WithinLimits, accepted-within}
-use Rattle.words.specs.Tests.{all-each}
+use Rattle.theory.specs.Tests.{all-each}
 use Rattle.judge.specs.Atoms.{Judgeable}
 
 module _ (q : Question) (values : List ℕ) where

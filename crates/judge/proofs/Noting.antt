@@ -136,4 +136,4 @@ asked-is q values e = λ i. record { n = e i; codes = q .codes; coefficients = q
 
 pub worths-satisfy : (q : Question) (values : List ℕ) (worths : List Bool) → Worths q values worths → formulaWorth (map nodeOf (q .codes)) worths ≡ satisfied q values
 unfolding satisfied nodesOf
-worths-satisfy q values worths w = worth-alike (map nodeOf (q .codes)) worths (map (λ (a : Atom). holds a values) (atomsOf q)) (w .alike)
+worths-satisfy q values worths w = worth-alike (map nodeOf (q .codes)) worths (map (λ (a : Atom). holds a values) (atomsOf q)) (λ i h. w .alike i)

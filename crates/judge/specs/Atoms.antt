@@ -1,7 +1,7 @@
 -- The atoms of a question as the judge goes through them: where the next one stands, and what each is worth to the values.
 use Prim.Native.Nat.{ℕ, _≤_, _<_}
 use mathlib.Core.Path.{_≡_}
-use mathlib.Core.Bool.{Bool, true, cond}
+use mathlib.Core.Bool.{Bool, true, false, cond}
 use mathlib.Core.List.{List, map}
 use lib.ListN.{length, getD, drop}
 use lib.IntN.{ℤ}
@@ -11,7 +11,6 @@ use Rattle.scope.specs.Sizes.{mostValue}
 use Rattle.scope.specs.Question.{Kind, equation, atMost, nodeOf, isAtom, kindsOf, Atom, atomsOf}
 use Rattle.scope.specs.States.{holds}
 use Rattle.theory.specs.Accepted.{WithinLimits}
-use Rattle.formula.specs.Alike.{Alike}
 
 -- the kind of an atom's code
 abbrev pub kindOfCode : ℕ → Kind
@@ -36,4 +35,4 @@ pub record Judgeable (q : Question) (values : List ℕ) : Type 0 where
 -- what each atom is worth to the values, false behind the last
 pub record Worths (q : Question) (values : List ℕ) (worths : List Bool) : Type 0 where
   pub whole : length worths ≡ 8
-  pub alike : Alike worths (map (λ (a : Atom). holds a values) (atomsOf q))
+  pub alike : (i : ℕ) → getD worths i false ≡ getD (map (λ (a : Atom). holds a values) (atomsOf q)) i false

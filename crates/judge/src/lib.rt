@@ -1,9 +1,11 @@
 // Judging: whether a tuple of values satisfies a question, in whole-number arithmetic.
-use formula::formula_worth;
+use formula::truth_at;
+use formula::truths_of;
 use scope::Question;
 use scope::ReadAnswer;
 use scope::Refusal;
 use scope::TruthAnswer;
+use scope::is_atom;
 ghost use mathlib.Core.Path.{_≡_};
 ghost use Prim.Native.Nat.{ℕ, _*_, _≤_, _<_};
 ghost use lib.ListN.{length, getD};
@@ -11,7 +13,6 @@ ghost use lib.IntN.{pos, natAbs, _*ℤ_};
 ghost use lib.Dec.{leb};
 ghost use Rattle.scope.specs.Whole.{all};
 ghost use Rattle.scope.specs.Sizes.{mostCoefficient, mostValue};
-ghost use Rattle.scope.specs.Question.{nodeOf, isAtom};
 ghost use Rattle.scope.specs.States.{dot, compares, satisfied};
 ghost use Rattle.judge.specs.Sums.{rowAt, Summable};
 ghost use Rattle.judge.specs.Atoms.{kindOfCode, NextAtom, asked, Judgeable, Worths};
@@ -68,13 +69,6 @@ fn holds(
     stands(code, sum, k)
 }
 
-// Whether a node code is that of an atom.
-fn is_atom(code: u8) -> bool
-    ensures { λ r. ⌜ r ≡ isAtom (nodeOf code) ⌝ }
-{
-    code == 1 || code == 2
-}
-
 // The first atom's node from a node on; 64 where there is none.
 fn next_atom(codes: &[u8; Question::NODES], from: usize) -> usize
     requires { ⌜ (length (now codes) ≡ 64) × (from ≤ 64) ⌝ }
@@ -120,7 +114,7 @@ fn satisfies(q: Question, values: &[u64]) -> bool
     let coefficients = q.coefficients;
     let constants = q.constants;
     let worths = worths_of(&codes, &coefficients, &constants, values);
-    formula_worth(&codes, &worths)
+    truth_at(truths_of(&codes), worths)
 }
 
 // Whether every value is within the judge's limit.

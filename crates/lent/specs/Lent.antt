@@ -8,6 +8,11 @@ use Rattle.scope.specs.declared.Question.{Question}
 use Rattle.scope.specs.declared.ReadAnswer.{ReadAnswer}
 use Rattle.scope.specs.Question.{emptyQuestion}
 
+pub record PartsCopied (codes : List ℕ) (coefficients constants : List ℤ) (codes₀ : List ℕ) (coefficients₀ constants₀ : List ℤ) (codes₁ : List ℕ) (coefficients₁ constants₁ : List ℤ) : Type 0 where
+  pub codes-put : codes₁ ≡ sets codes₀ 0 codes
+  pub coefficients-put : coefficients₁ ≡ sets coefficients₀ 0 coefficients
+  pub constants-put : constants₁ ≡ sets constants₀ 0 constants
+
 -- a part of the question that reading gave, in a lent buffer: refused, the buffer as it was
 abbrev pub partInto {ℓ} : {A : Type ℓ} → ReadAnswer → List A → List A → List A
 partInto ReadAnswer.Accepted part lent = sets lent 0 part

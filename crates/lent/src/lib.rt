@@ -2,8 +2,7 @@
 mod lending;
 mod telling;
 
-pub use lending::put_parts;
-pub use lending::question_of;
+pub use lending::copy_parts;
 pub use telling::tell_built;
 pub use telling::tell_decided;
 pub use telling::tell_read;

@@ -10,8 +10,7 @@ ghost use Rattle.scope.specs.Running.{ran};
 ghost use Rattle.scope.specs.Words.{spelt};
 ghost use Rattle.lent.specs.Told.{Gives, ReadsInto, WritesInto, DecidesInto, BuildsInto};
 ghost use Rattle.lent.specs.Lent.{lentQuestion};
-use lent::put_parts;
-use lent::question_of;
+use lent::copy_parts;
 use lent::tell_built;
 use lent::tell_decided;
 use lent::tell_read;
@@ -19,6 +18,9 @@ use lent::tell_record;
 use lent::tell_spelt;
 use lent::tell_truth;
 use lent::tell_written;
+use scope::Question;
+use scope::ReadAnswer;
+use wire::PartsAnswer;
 
 #[no_mangle]
 pub extern "C" fn pelohuaki_record_at(bytes: &[u8], at: usize, told: &mut [u64]) -> u64
@@ -38,11 +40,28 @@ pub extern "C" fn pelohuaki_read(
 ) -> u64
     ensures { λ r. ⌜ ReadsInto (readHeld (now (bytes .entry))) (now (codes .entry)) (now (coefficients .entry)) (now (constants .entry)) (now (told .entry)) r (now (codes .exit)) (now (coefficients .exit)) (now (constants .exit)) (now (told .exit)) ⌝ }
 {
-    let held = wire::read(bytes);
-    let answer = held.answer;
-    let question = held.question;
-    put_parts(answer, question, codes, coefficients, constants);
-    tell_read(answer, question.n, told)
+    let mut held_codes = [0u8; Question::NODES];
+    let mut held_coefficients = [0i32; Question::COEFFICIENTS];
+    let mut held_constants = [0i32; Question::ATOMS];
+    match wire::read_parts(
+        bytes,
+        &mut held_codes,
+        &mut held_coefficients,
+        &mut held_constants,
+    ) {
+        PartsAnswer::Refused(refusal) => tell_read(ReadAnswer::Refused(refusal), 0, told),
+        PartsAnswer::Parts { n, next: _ } => {
+            copy_parts(
+                &held_codes,
+                &held_coefficients,
+                &held_constants,
+                codes,
+                coefficients,
+                constants,
+            );
+            tell_read(ReadAnswer::Accepted, n, told)
+        }
+    }
 }
 
 #[no_mangle]
@@ -56,8 +75,18 @@ pub extern "C" fn pelohuaki_write(
 ) -> u64
     ensures { λ r. ⌜ WritesInto (wrote (lentQuestion n (now (codes .entry)) (now (coefficients .entry)) (now (constants .entry))) (now (bytes .entry))) (now (told .entry)) r (now (bytes .exit)) (now (told .exit)) ⌝ }
 {
-    let question = question_of(n, codes, coefficients, constants);
-    let answer = wire::write(question, bytes);
+    let mut all_codes = [0u8; Question::NODES];
+    let mut all_coefficients = [0i32; Question::COEFFICIENTS];
+    let mut all_constants = [0i32; Question::ATOMS];
+    copy_parts(
+        codes,
+        coefficients,
+        constants,
+        &mut all_codes,
+        &mut all_coefficients,
+        &mut all_constants,
+    );
+    let answer = wire::write_parts(n, &all_codes, &all_coefficients, &all_constants, bytes);
     tell_written(answer, told)
 }
 

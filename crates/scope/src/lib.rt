@@ -1,8 +1,9 @@
 // The question, its limits, the refusal and the answers of every public call, as document 01 has them.
 // What the calls must do is defined in specs/; the calls themselves are in the crates above.
 ghost use mathlib.Core.Path.{_≡_};
+ghost use Prim.Native.Nat.{_^_, _≤_};
 ghost use Rattle.scope.specs.Sizes.{limits};
-ghost use Rattle.scope.specs.Question.{emptyQuestion};
+ghost use Rattle.scope.specs.Question.{nodeOf, isAtom, emptyQuestion};
 
 // A held question. Unused entries are zero.
 pub struct Question {
@@ -64,6 +65,21 @@ impl Question {
             states: Self::STATES,
         }
     }
+}
+
+// Whether a node code is that of an atom.
+pub fn is_atom(code: u8) -> bool
+    ensures { λ r. ⌜ r ≡ isAtom (nodeOf code) ⌝ }
+{
+    code == 1 || code == 2
+}
+
+// How many letters there are for so many variables.
+pub fn letters(n: usize) -> usize
+    requires { ⌜ n ≤ 6 ⌝ }
+    ensures { λ r. ⌜ (r ≡ 2 ^ n) × (r ≤ 64) ⌝ }
+{
+    1 << n
 }
 
 // Each limit of a question, as a value.

@@ -1,2 +1,3 @@
 pub mod Signed
 pub mod KindCodes
+pub mod Doubling

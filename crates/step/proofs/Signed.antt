@@ -1,60 +1,77 @@
 -- What the code's tests of cells say of them, and a cell's step by those tests. Assumes nothing.
-use mathlib.Core.Path.{_≡_, refl, sym, ap, _∙_}
-use mathlib.Core.Logic.{_≢_, inl, inr}
-use mathlib.Core.Bool.{true, false}
-use Prim.Native.Nat.{ℕ, suc, _-_, _≤_, _<_}
+use mathlib.Core.Path.{_≡_, refl}
+use mathlib.Core.Logic.{⊎-elim}
+use mathlib.Core.Bool.{Bool, true, false, cond, not, _&&_, _||_}
+use Prim.Native.Nat.{ℕ, _≤_}
 use native.Mathlib.Omega.{arith}
-use borrow.Author.Tests.{ne-eqb}
-use lib.Dec.{eqb}
-use lib.IntN.{ℤ, pos, negsuc, natAbs, _-ℤ_}
-use lib.Signed.{mag}
+use borrow.Author.Tests.{eqb-true, eqb-false}
+use lib.Dec.{eqb, lit<}
+use lib.Ieee.Bits.{is-true}
+use lib.IntN.{ℤ, pos, natAbs, _-ℤ_}
+use lib.Signed.{quotZ, remZ}
 use mir.Syntax.{w32}
-use mir.Val.{SFits, ofZ, toZ}
-use mir.ValLaws.{toZ-ofZ}
+use mir.Val.{SFits, ofZ}
 use Rattle.scope.specs.Whole.{eqZ, even, half}
 use Rattle.scope.specs.Question.{equation, atMost}
-use Rattle.scope.specs.States.{deadCell, cellOf}
-use Rattle.step.specs.Laws.{live-step}
-use Rattle.step.specs.Cells.{kindOf, stepCell, CellFits}
-
--- a cell, read from its bits
-pub read : (z : ℤ) → mag z < 2147483648 → toZ w32 (ofZ w32 z) ≡ z
-read z h = toZ-ofZ w32 z (record { sfits = h })
+use Rattle.scope.specs.States.{live, dead, deadCell, cellOf, halved}
+use Rattle.theory.specs.Magnitude.{abs-sub, abs-half, fits-abs, rem-even, rem-odd}
+use Rattle.theory.specs.Integers.{eq→eqZ}
+use Rattle.theory.specs.Bits.{test-bits}
+use Rattle.step.specs.Cells.{kindOf, livePart, stepCell, CellFits}
 
 -- ---- tests
 
--- a number whose bits are those of the dead cell is the dead cell
-pub dead-bits : (z : ℤ) → SFits w32 z → ofZ w32 z ≡ 2147483648 → z ≡ deadCell
-dead-bits z f e = sym (toZ-ofZ w32 z f) ∙ ap (toZ w32) e
-
-pub live-bits : (z : ℤ) → (ofZ w32 z ≡ 2147483648 → ⊥) → z ≢ deadCell
-live-bits z f e = f (ap (ofZ w32) e)
+pub dead-test : (z : ℤ) → SFits w32 z → eqb (ofZ w32 z) 2147483648 ≡ eqZ z deadCell
+dead-test z f = test-bits w32 z deadCell f (record { sfits = lit< tt })
 
 pub zero-bits : (z : ℤ) → SFits w32 z → eqb (ofZ w32 z) 0 ≡ eqZ z (pos 0)
-zero-bits (pos n) f = refl
-zero-bits (negsuc n) f = let h : 4294967296 - suc n ≡ 0 → ⊥ = λ e. omega (arith, f .sfits) in ne-eqb (4294967296 - suc n) 0 h
+zero-bits z f = test-bits w32 z (pos 0) f (record { sfits = lit< tt })
+
+pub odd-test : (d : ℤ) → not (eqb (ofZ w32 (remZ d (pos 2))) 0) ≡ not (even d)
+odd-test d = go (eqb (ofZ w32 (remZ d (pos 2))) 0) refl
+  where
+    go : (b : Bool) → eqb (ofZ w32 (remZ d (pos 2))) 0 ≡ b → not b ≡ not (even d)
+    go true e = rw (rem-even d (eqb-true (ofZ w32 (remZ d (pos 2))) 0 e))
+    go false e = rw (rem-odd d (eqb-false (ofZ w32 (remZ d (pos 2))) 0 e))
 
 -- ---- a cell's step
 
-pub kind-equation : (c : ℕ) → c ≡ 1 → kindOf c ≡ equation
-kind-equation c e = rw e
+pub live-small : (cell : ℤ) → CellFits cell → natAbs (livePart cell) ≤ 1000000
+live-small cell f = go (eqZ cell deadCell) refl
+  where
+    go : (b : Bool) → eqZ cell deadCell ≡ b → natAbs (cond b (pos 0) cell) ≤ 1000000
+    go true e = omega arith
+    go false e = ⊎-elim (λ d. absurd (let z : _≡_ {A = ℕ} 0 1 = cc (is-true (eqZ cell deadCell) (eq→eqZ cell deadCell d)) in omega arith)) (λ s. s) f
 
-pub kind-atMost : (c : ℕ) → (c ≡ 1 → ⊥) → kindOf c ≡ atMost
-kind-atMost c f = rw (ne-eqb c 1 f)
+pub step-by : (kind : ℕ) (cell sum : ℤ)
+    → cond (eqZ cell deadCell || (eqb kind 1 && not (even (livePart cell -ℤ sum)))) deadCell (half (livePart cell -ℤ sum)) ≡ stepCell (kindOf kind) cell sum
+unfolding stepCell cellOf
+step-by kind cell sum = go (eqZ cell deadCell) (eqb kind 1)
+  where
+    odd : (t : Bool) (d : ℤ) → cond (not t) deadCell d ≡ cellOf (cond t (live d) dead)
+    odd true d = refl
+    odd false d = refl
 
-module _ (cell sum : ℤ) (live : cell ≢ deadCell) where
-  pub step-odd : even (cell -ℤ sum) ≡ false → stepCell equation cell sum ≡ deadCell
-  unfolding cellOf
-  step-odd e = live-step equation cell sum live ∙ rw e
+    go : (b k : Bool) → cond (b || (k && not (even (cond b (pos 0) cell -ℤ sum)))) deadCell (half (cond b (pos 0) cell -ℤ sum))
+        ≡ cond b deadCell (cellOf (halved (cond k equation atMost) (cell -ℤ sum)))
+    go true k = refl
+    go false true = odd (even (cell -ℤ sum)) (half (cell -ℤ sum))
+    go false false = refl
 
-  pub step-even : even (cell -ℤ sum) ≡ true → stepCell equation cell sum ≡ half (cell -ℤ sum)
-  unfolding cellOf
-  step-even e = live-step equation cell sum live ∙ rw e
+-- ---- the difference
 
-  pub step-atMost : stepCell atMost cell sum ≡ half (cell -ℤ sum)
-  unfolding cellOf
-  step-atMost = live-step atMost cell sum live
+pub record Sizes (e s : ℤ) : Type 0 where
+  pub entry : SFits w32 e
+  pub sum : SFits w32 s
+  pub difference : SFits w32 (e -ℤ s)
+  pub quotient : SFits w32 (quotZ (e -ℤ s) (pos 2))
 
-  pub live-fits : CellFits cell → natAbs cell ≤ 1000000
-  live-fits (inl e) = absurd (live e)
-  live-fits (inr h) = h
+pub sizes : (e s : ℤ) → natAbs e ≤ 1000000 → natAbs s ≤ 24576 → Sizes e s
+sizes e s he hs =
+    let d : ℤ = e -ℤ s in
+    record {
+      entry = fits-abs w32 e (omega arith);
+      sum = fits-abs w32 s (omega arith);
+      difference = fits-abs w32 d (omega (arith, abs-sub e s));
+      quotient = fits-abs w32 (quotZ d (pos 2)) (omega (arith, abs-half d, abs-sub e s));
+    }

@@ -3,15 +3,15 @@ use mathlib.Core.Path.{_≡_}
 use mathlib.Core.Logic.{_⊎_}
 use mathlib.Core.Bool.{Bool, cond}
 use mathlib.Core.List.{List, map}
-use Prim.Native.Nat.{ℕ, _+_, _*_, _^_, _≤_, _<_}
+use Prim.Native.Nat.{ℕ, _+_, _*_, _%_, _^_, _≤_, _<_}
 use lib.ListN.{length, getD, take, drop}
 use lib.Dec.{eqb}
-use lib.IntN.{ℤ, pos, natAbs, _-ℤ_}
+use lib.IntN.{ℤ, pos, natAbs, _+ℤ_, _-ℤ_}
 use Rattle.scope.specs.Whole.{eqZ}
 use Rattle.scope.specs.Question.{Kind, equation, atMost, atom, nodeOf, codeOf, kindsOf}
 use Rattle.scope.specs.States.{deadCell, cellOf, halved, sumAt, worthLive}
 use Rattle.theory.specs.Sums.{Small}
-use Rattle.step.specs.Eight.{listed}
+use Rattle.step.specs.Eight.{listed, padded}
 
 -- ---- kinds, as the code has them: 1 equation, 2 at most
 
@@ -27,6 +27,10 @@ kindCodes codes = map kindCode (kindsOf (map nodeOf codes))
 
 -- ---- a key cell, and the sum of its atom's coefficients at a letter
 
+-- a cell as a number: a dead one as 0
+abbrev pub livePart : ℤ → ℤ
+livePart cell = cond (eqZ cell deadCell) (pos 0) cell
+
 unfoldable pub stepCell : Kind → ℤ → ℤ → ℤ
 stepCell κ cell sum = cond (eqZ cell deadCell) deadCell (cellOf (halved κ (cell -ℤ sum)))
 
@@ -34,19 +38,21 @@ stepCell κ cell sum = cond (eqZ cell deadCell) deadCell (cellOf (halved κ (cel
 abbrev pub worthCell : Kind → ℤ → Bool
 worthCell κ cell = worthLive κ cell
 
--- ---- the row of m cells that starts at a cell of the keys: what its cell i becomes, and what atom i is worth
+-- ---- a row of cells: what cell i becomes, and what atom i is worth. A row has eight cells in the code and its first `width` in the key area;
+-- past its cells it reads as 0.
 
-abbrev pub stepAt : List ℕ → List ℤ → ℕ → List ℤ → ℕ → ℕ → ℤ
-stepAt kinds sums letter keys at i = stepCell (kindOf (getD kinds i 0)) (getD keys (at + i) (pos 0)) (getD sums (8 * letter + i) (pos 0))
+abbrev pub stepAt : List ℕ → List ℤ → ℕ → List ℤ → ℕ → ℤ
+stepAt kinds sums letter row i = stepCell (kindOf (getD kinds i 0)) (getD row i (pos 0)) (getD sums (8 * letter + i) (pos 0))
 
-unfoldable pub stepCells : List ℕ → ℕ → List ℤ → ℕ → List ℤ → ℕ → List ℤ
-stepCells kinds m sums letter keys at = listed (stepAt kinds sums letter keys at) m
+-- the first `width` cells of the row to which a letter leads
+unfoldable pub stepCells : List ℕ → ℕ → List ℤ → ℕ → List ℤ → List ℤ
+stepCells kinds width sums letter row = listed (stepAt kinds sums letter row) width
 
-abbrev pub worthAt : List ℕ → List ℤ → ℕ → ℕ → Bool
-worthAt kinds keys at i = worthCell (kindOf (getD kinds i 0)) (getD keys (at + i) (pos 0))
+abbrev pub worthAt : List ℕ → List ℤ → ℕ → Bool
+worthAt kinds row i = worthCell (kindOf (getD kinds i 0)) (getD row i (pos 0))
 
-unfoldable pub worthCells : List ℕ → ℕ → List ℤ → ℕ → List Bool
-worthCells kinds m keys at = listed (worthAt kinds keys at) m
+unfoldable pub worthCells : List ℕ → List ℤ → List Bool
+worthCells kinds row = listed (worthAt kinds row) 8
 
 -- ---- what the code asks
 
@@ -54,12 +60,10 @@ worthCells kinds m keys at = listed (worthAt kinds keys at) m
 abbrev pub CellFits : ℤ → Type 0
 CellFits cell = (cell ≡ deadCell) ⊎ (natAbs cell ≤ 1000000)
 
-pub record Stepping (m : ℕ) (sums : List ℤ) (letter : ℕ) (keys : List ℤ) (at : ℕ) : Type 0 where
-  pub atoms : m ≤ 8
-  pub letters : letter < 64
-  pub room : at + m ≤ length keys
-  pub cells : (i : ℕ) → i < m → CellFits (getD keys (at + i) (pos 0))
-  pub sums-fit : (i : ℕ) → i < m → natAbs (getD sums (8 * letter + i) (pos 0)) ≤ 24576
+pub record Stepping (sums : List ℤ) (letter : ℕ) (row : List ℤ) : Type 0 where
+  pub letter-ok : letter < 64
+  pub cells : (i : ℕ) → i < 8 → CellFits (getD row i (pos 0))
+  pub sums-fit : (i : ℕ) → i < 8 → natAbs (getD sums (8 * letter + i) (pos 0)) ≤ 24576
 
 -- the coefficients of the first m atoms, n each, in rows of six
 pub record Coefficients (n m : ℕ) (coefficients : List ℤ) : Type 0 where
@@ -68,7 +72,27 @@ pub record Coefficients (n m : ℕ) (coefficients : List ℤ) : Type 0 where
   pub whole : length coefficients ≡ 48
   pub small : (i : ℕ) → i < m → Small 4096 (take n (drop (6 * i) coefficients))
 
--- each letter's sum of atom i stands at 8 * letter + i
-abbrev pub Sums : ℕ → ℕ → List ℤ → List ℤ → Type 0
-Sums n m coefficients sums =
-    (letter i : ℕ) → letter < 2 ^ n → i < m → getD sums (8 * letter + i) (pos 0) ≡ sumAt (take n (drop (6 * i) coefficients)) letter
+-- each letter's sum of atom i stands at 8 * letter + i, and past the atoms there is 0
+pub record Sums (n m : ℕ) (coefficients sums : List ℤ) : Type 0 where
+  pub sum-is : (letter i : ℕ) → letter < 2 ^ n → i < m → getD sums (8 * letter + i) (pos 0) ≡ sumAt (take n (drop (6 * i) coefficients)) letter
+  pub blank : (letter i : ℕ) → letter < 2 ^ n → m ≤ i → i < 8 → getD sums (8 * letter + i) (pos 0) ≡ pos 0
+
+-- ---- the sums by doubling
+
+-- what digit j adds to each atom's sum
+unfoldable pub digitAdds : ℕ → List ℤ → ℕ → List ℤ
+digitAdds m coefficients j = padded (pos 0) (listed (λ i. getD coefficients (6 * i + j) (pos 0)) m)
+
+-- `many` sums from cell `from` on can be added to, and have room from cell `to` on
+pub record Adding (adds sums : List ℤ) (from to many : ℕ) : Type 0 where
+  pub whole : length sums ≡ 512
+  pub apart : from + many ≤ to
+  pub room : to + many ≤ 512
+  pub sums-small : (k : ℕ) → k < many → natAbs (getD sums (from + k) (pos 0)) ≤ 24576
+  pub adds-small : (i : ℕ) → i < 8 → natAbs (getD adds i (pos 0)) ≤ 4096
+
+-- and stand there, added to; the cells before are the same
+pub record Added (adds before after : List ℤ) (from to many : ℕ) : Type 0 where
+  pub whole : length after ≡ 512
+  pub same : (k : ℕ) → k < to → getD after k (pos 0) ≡ getD before k (pos 0)
+  pub more : (k : ℕ) → k < many → getD after (to + k) (pos 0) ≡ getD before (from + k) (pos 0) +ℤ getD adds (k % 8) (pos 0)

@@ -1,27 +1,26 @@
 -- The code's key rows are the automaton's: where a row has the cells of a state, its target has those of the state's step, and the worths are
 -- the atoms'. The start's cells are the constants.
 use mathlib.Core.Path.{_≡_, refl, sym, ap, _∙_}
-use mathlib.Core.Logic.{_≢_, inl, inr}
+use mathlib.Core.Logic.{_≢_, inl, inr, by-cases}
 use mathlib.Core.Bool.{Bool, true, false}
 use mathlib.Core.List.{List, [], _∷_}
 use Prim.Native.Nat.{ℕ, zero, suc, _+_, _*_, _^_, _≤_, _<_}
+use native.Mathlib.Decide.{decLt}
 use native.Mathlib.Omega.{arith}
 use lib.Dec.{T}
-use lib.Pow.{pow-mono}
-use lib.ListN.{length, getD, take, drop, length-map, length-take, List·getD-map}
-use lib.Seq.{ext-getD, getD-take, getD-drop}
-use lib.IntN.{ℤ, pos, _-ℤ_}
+use lib.ListN.{length, getD, take, length-map, length-take, List·getD-map}
+use lib.Seq.{ext-getD, getD-take}
+use lib.IntN.{ℤ, pos, natAbs, _-ℤ_}
 use Rattle.scope.specs.declared.Question.{Question}
-use Rattle.scope.specs.Whole.{eqZ, atFront}
+use Rattle.scope.specs.Whole.{eqZ}
 use Rattle.scope.specs.Question.{Kind, equation, atMost, Atom, atomsOf, atomCount}
 use Rattle.scope.specs.States.{Entry, dead, live, State, deadCell, cellOf, cellsOf, sumAt, startEntry, startOf, halved, stepEntry, stepOf, worth, worthsOf}
 use Rattle.theory.specs.Integers.{eqZ→eq}
-use Rattle.theory.specs.Joined.{atFront-cells, atFront-length}
 use Rattle.theory.specs.Range.{EntryIn, in-dead, in-live, StateIn, length-in, entry-in}
 use Rattle.theory.specs.Accepted.{WithinLimits}
 use Rattle.theory.specs.Cells.{AtomFits, fits-at, sum-size, live-size, live-not-dead}
-use Rattle.step.specs.Eight.{length-listed, listed-is, padded, getD-padded}
-use Rattle.step.specs.Cells.{kindOf, kindCodes, stepCell, worthCell, stepAt, stepCells, worthAt, worthCells, CellFits, Stepping, Sums}
+use Rattle.step.specs.Eight.{length-listed, getD-listed, listed-is, padded, getD-padded}
+use Rattle.step.specs.Cells.{kindOf, kindCodes, stepCell, worthCell, stepAt, stepCells, worthAt, worthCells, CellFits, Sums}
 use Rattle.step.specs.Atoms.{noAtom, atomAt, atom-coefficients, atom-constant, atom-kind, few-atoms, limits-fit}
 
 -- ---- one cell
@@ -58,28 +57,37 @@ cell-worth a dead = low (a .kind)
     low equation = refl
     low atMost = refl
 
+pub zero-step : (κ : Kind) → stepCell κ (pos 0) (pos 0) ≡ pos 0
+unfolding stepCell cellOf
+zero-step equation = refl
+zero-step atMost = refl
+
 -- ---- a row
 
-pub step-length : (kinds : List ℕ) (m : ℕ) (sums : List ℤ) (letter : ℕ) (keys : List ℤ) (at : ℕ) → length (stepCells kinds m sums letter keys at) ≡ m
+module _ (kinds : List ℕ) (sums : List ℤ) (letter : ℕ) (row : List ℤ) where
+  pub step-length : (width : ℕ) → length (stepCells kinds width sums letter row) ≡ width
+  unfolding stepCells
+  step-length width = length-listed (stepAt kinds sums letter row) width
+
+  pub step-cell : (width i : ℕ) → i < width → getD (stepCells kinds width sums letter row) i (pos 0) ≡ stepAt kinds sums letter row i
+  unfolding stepCells
+  step-cell width i h = getD-listed (stepAt kinds sums letter row) width i (pos 0) h
+
+  -- the cells of fewer, of a row that has the same
+  pub step-front : (width : ℕ) → width ≤ 8 → take width (stepCells kinds 8 sums letter row) ≡ stepCells kinds width sums letter (take width row)
+  unfolding stepCells
+  step-front width few =
+      sym (listed-is (pos 0) (stepAt kinds sums letter (take width row)) width (take width (stepCells kinds 8 sums letter row))
+      (simp (length-take, step-length 8) (omega arith))
+      (λ i h. rw (getD-take width row i (pos 0) h, getD-take width (stepCells kinds 8 sums letter row) i (pos 0) h, step-cell 8 i (omega arith))))
+
+-- letters with the same sums lead to the same
+pub step-alike : (kinds : List ℕ) (width : ℕ) (sums : List ℤ) (a b : ℕ) (row : List ℤ)
+    → ((i : ℕ) → i < width → getD sums (8 * a + i) (pos 0) ≡ getD sums (8 * b + i) (pos 0)) → stepCells kinds width sums a row ≡ stepCells kinds width sums b row
 unfolding stepCells
-step-length kinds m sums letter keys at = length-listed (stepAt kinds sums letter keys at) m
-
-pub worth-length : (kinds : List ℕ) (m : ℕ) (keys : List ℤ) (at : ℕ) → length (worthCells kinds m keys at) ≡ m
-unfolding worthCells
-worth-length kinds m keys at = length-listed (worthAt kinds keys at) m
-
--- the key's first m cells are the target of the row that starts at cell `at`
-pub record Worked (kinds : List ℕ) (m : ℕ) (sums : List ℤ) (letter : ℕ) (keys : List ℤ) (at : ℕ) (key : List ℤ) : Type 0 where
-  pub long : m ≤ length key
-  pub cells : take m key ≡ stepCells kinds m sums letter keys at
-
--- at the front of the row that was lent
-pub front-worked : (kinds : List ℕ) (m : ℕ) (sums : List ℤ) (letter : ℕ) (keys : List ℤ) (at : ℕ) (lent : List ℤ) {key : List ℤ} → m ≤ length lent
-    → key ≡ atFront (stepCells kinds m sums letter keys at) lent → Worked kinds m sums letter keys at key
-front-worked kinds m sums letter keys at lent room is =
-    let cells = stepCells kinds m sums letter keys at in
-    let size = step-length kinds m sums letter keys at in
-    record { long = rw (is, atFront-length cells lent (rw size room)) room; cells = rw is (atFront-cells cells lent m size) }
+step-alike kinds width sums a b row same =
+    listed-is (pos 0) (stepAt kinds sums a row) width (stepCells kinds width sums b row) (step-length kinds sums b row width)
+    (λ i h. rw (same i h, step-cell kinds sums b row width i h))
 
 -- ---- by index
 
@@ -132,11 +140,10 @@ pub record Tables (q : Question) (kinds : List ℕ) (m : ℕ) (sums : List ℤ) 
   pub count : m ≡ atomCount q
   pub sums-are : Sums (q .n) m (q .coefficients) sums
 
--- the m cells from cell `at` on are those of a state in range
-pub record KeyRow (q : Question) (m : ℕ) (keys : List ℤ) (at : ℕ) (es : State) : Type 0 where
-  pub room : at + m ≤ length keys
+-- the row's first cells are those of a state in range
+pub record Holds (q : Question) (width : ℕ) (row : List ℤ) (es : State) : Type 0 where
   pub inside : StateIn (atomsOf q) es
-  pub cells : take m (drop at keys) ≡ cellsOf es
+  pub cells : take width row ≡ cellsOf es
 
 module _ {q : Question} {kinds : List ℕ} {m : ℕ} {sums : List ℤ} (t : Tables q kinds m sums) where
   module _ (i : ℕ) (h : i < m) where
@@ -151,9 +158,15 @@ module _ {q : Question} {kinds : List ℕ} {m : ℕ} {sums : List ℤ} (t : Tabl
     fits = fits-at (limits-fit (t .limits)) i noAtom counted
 
     sum-at : (letter : ℕ) → letter < 2 ^ q .n → getD sums (8 * letter + i) (pos 0) ≡ sumAt (atomAt q i .coefficients) letter
-    sum-at letter l = t .sums-are letter i l h ∙ ap (λ (cs : List ℤ). sumAt cs letter) (sym (atom-coefficients q i counted))
+    sum-at letter l = t .sums-are .sum-is letter i l h ∙ ap (λ (cs : List ℤ). sumAt cs letter) (sym (atom-coefficients q i counted))
 
-  module _ {keys : List ℤ} {at : ℕ} {es : State} (r : KeyRow q m keys at es) where
+  pub sums-small : (letter i : ℕ) → letter < 2 ^ q .n → i < 8 → natAbs (getD sums (8 * letter + i) (pos 0)) ≤ 24576
+  sums-small letter i l p =
+      by-cases (decLt i m)
+      (λ h. rw (sum-at i h letter l) (sum-size (fits i h) letter))
+      (λ h. rw (t .sums-are .blank letter i l (omega arith) p) (omega arith))
+
+  module _ {row : List ℤ} {es : State} (r : Holds q m row es) where
     long : length es ≡ length (atomsOf q)
     long = length-in (r .inside)
 
@@ -161,39 +174,33 @@ module _ {q : Question} {kinds : List ℕ} {m : ℕ} {sums : List ℤ} (t : Tabl
     unfolding atomCount
     counts = sym (t .count)
 
-    key-at : (i : ℕ) → i < m → getD keys (at + i) (pos 0) ≡ cellOf (getD es i noEntry)
-    key-at i h = sym (getD-take m (drop at keys) i (pos 0) h ∙ getD-drop at keys i (pos 0)) ∙ ap (λ (l : List ℤ). getD l i (pos 0)) (r .cells) ∙ cells-at es i
+    key-at : (i : ℕ) → i < m → getD row i (pos 0) ≡ cellOf (getD es i noEntry)
+    key-at i h = sym (getD-take m row i (pos 0) h) ∙ ap (λ (l : List ℤ). getD l i (pos 0)) (r .cells) ∙ cells-at es i
 
     in-at : (i : ℕ) → i < m → EntryIn (atomAt q i) (getD es i noEntry)
     in-at i h = entry-in (r .inside) i noAtom noEntry (rw counts h)
 
-    pub stepping : (letter : ℕ) → letter < 2 ^ q .n → Stepping m sums letter keys at
-    stepping letter l = record {
-      atoms = rw (t .count) (few-atoms (t .limits));
-      letters = omega (arith, pow-mono (t .limits .variables));
-      room = r .room;
-      cells = λ i h. rw (key-at i h) (cell-fits (fits i h) (in-at i h));
-      sums-fit = λ i h. rw (sum-at i h letter l) (sum-size (fits i h) letter);
-    }
+    pub cells-fit : (i : ℕ) → i < m → CellFits (getD row i (pos 0))
+    cells-fit i h = rw (key-at i h) (cell-fits (fits i h) (in-at i h))
 
     -- its target
-    pub stepped : (letter : ℕ) → letter < 2 ^ q .n → stepCells kinds m sums letter keys at ≡ cellsOf (stepOf (atomsOf q) es letter)
+    pub stepped : (letter : ℕ) → letter < 2 ^ q .n → stepCells kinds m sums letter row ≡ cellsOf (stepOf (atomsOf q) es letter)
     unfolding stepCells
     stepped letter l =
         let next = stepOf (atomsOf q) es letter in
-        listed-is (pos 0) (stepAt kinds sums letter keys at) m (cellsOf next)
+        listed-is (pos 0) (stepAt kinds sums letter row) m (cellsOf next)
         (length-cells next ∙ length-step (atomsOf q) es letter long ∙ counts)
         (λ i h.
         rw (kind-at i h, key-at i h, sum-at i h letter l)
         (cell-step (fits i h) (in-at i h) letter ∙ sym (cells-at next i ∙ ap cellOf (step-at (atomsOf q) es letter i long (rw counts h)))))
 
     -- what the atoms are worth at it
-    pub worths : worthCells kinds m keys at ≡ worthsOf (atomsOf q) es
+    pub worths : (i : ℕ) → i < m → getD (worthCells kinds row) i false ≡ getD (worthsOf (atomsOf q) es) i false
     unfolding worthCells
-    worths =
-        listed-is false (worthAt kinds keys at) m (worthsOf (atomsOf q) es)
-        (length-worths (atomsOf q) es long ∙ counts)
-        (λ i h. rw (kind-at i h, key-at i h) (cell-worth (atomAt q i) (getD es i noEntry) ∙ sym (worth-at (atomsOf q) es i long (rw counts h))))
+    worths i h =
+        let few : i < 8 = omega (arith, t .count, few-atoms (t .limits)) in
+        rw (getD-listed (worthAt kinds row) 8 i false few, kind-at i h, key-at i h)
+        (cell-worth (atomAt q i) (getD es i noEntry) ∙ sym (worth-at (atomsOf q) es i long (rw counts h)))
 
 -- ---- the start
 

@@ -1,15 +1,17 @@
 // What a letter does to a key row: the letters' sums, worked once for a question, and the row's target and worths.
 use scope::Question;
+use scope::is_atom;
+use scope::letters;
 use whole::floor_half;
 ghost use mathlib.Core.Path.{_≡_};
-ghost use Prim.Native.Nat.{_+_, _*_, _^_, _≤_, _<_};
-ghost use lib.ListN.{length, take, drop};
-ghost use lib.IntN.{natAbs};
-ghost use Rattle.theory.specs.Sums.{Small};
-ghost use Rattle.scope.specs.Whole.{atFront};
-ghost use Rattle.scope.specs.States.{sumAt};
+ghost use mathlib.Core.Bool.{not};
+ghost use Prim.Native.Nat.{_*_, _≤_, _<_};
+ghost use lib.ListN.{length};
+ghost use lib.IntN.{natAbs, _-ℤ_};
+ghost use Rattle.scope.specs.Whole.{eqZ, even};
+ghost use Rattle.scope.specs.States.{deadCell};
 ghost use Rattle.step.specs.Eight.{padded};
-ghost use Rattle.step.specs.Cells.{kindOf, kindCodes, stepCell, worthCell, stepCells, worthCells, CellFits, Stepping, Coefficients, Sums};
+ghost use Rattle.step.specs.Cells.{kindOf, kindCodes, livePart, stepCell, worthCell, stepCells, worthCells, digitAdds, CellFits, Stepping, Coefficients, Sums, Adding, Added};
 
 // Every letter's sum of every atom.
 pub const SUMS: usize = Question::LETTERS * Question::ATOMS;
@@ -17,45 +19,60 @@ pub const SUMS: usize = Question::LETTERS * Question::ATOMS;
 // The cell of a dead entry.
 const DEAD: i32 = -2_147_483_648;
 
-// What a cell becomes, where the letter's sum of its atom is given.
+fn is_dead(cell: i32) -> bool
+    ensures { λ r. ⌜ r ≡ eqZ cell deadCell ⌝ }
+{
+    cell == DEAD
+}
+
+// A cell as a number that can be halved: a dead one as 0.
+fn live_part(cell: i32) -> i32
+    ensures { λ r. ⌜ r ≡ livePart cell ⌝ }
+{
+    if is_dead(cell) { 0 } else { cell }
+}
+
+fn is_odd(cell: i32, sum: i32) -> bool
+    requires { ⌜ (natAbs cell ≤ 1000000) × (natAbs sum ≤ 24576) ⌝ }
+    ensures { λ r. ⌜ r ≡ not (even (cell -ℤ sum)) ⌝ }
+{
+    (cell - sum) % 2 != 0
+}
+
+// What a cell becomes, where the letter's sum of its atom is given. Every part is worked and none is passed over, so that eight cells are
+// stepped at once.
 fn step_cell(kind: u8, cell: i32, sum: i32) -> i32
     requires { ⌜ CellFits cell × (natAbs sum ≤ 24576) ⌝ }
     ensures { λ r. ⌜ r ≡ stepCell (kindOf kind) cell sum ⌝ }
 {
-    if cell == DEAD {
-        return DEAD;
+    let live = live_part(cell);
+    let half = floor_half(live, sum);
+    let odd = is_odd(live, sum);
+    if is_dead(cell) | ((kind == 1) & odd) {
+        DEAD
+    } else {
+        half
     }
-    if kind == 1 {
-        if (cell - sum) % 2 != 0 {
-            return DEAD;
-        }
-    }
-    floor_half(cell, sum)
 }
 
-// Writes the target of the key row that starts at cell `at` at the front of a row that is lent: the cells past the target stay. The loop's
-// length is fixed, so that it is laid out flat.
+// The row to which a letter leads.
 pub fn step_row(
-    kinds: &[u8; Question::ATOMS],
-    m: usize,
+    kinds: [u8; Question::ATOMS],
     sums: &[i32; SUMS],
     letter: usize,
-    keys: &[i32],
-    at: usize,
-    row: &mut [i32; Question::ATOMS],
-)
-    requires { ⌜ Stepping m (now sums) letter (now keys) at ⌝ }
-    requires { ⌜ m ≤ length (now row) ⌝ }
-    ensures { λ _. ⌜ now (row .exit) ≡ atFront (stepCells (now (kinds .entry)) m (now (sums .entry)) letter (now (keys .entry)) at) (now (row .entry)) ⌝ }
+    row: [i32; Question::ATOMS],
+) -> [i32; Question::ATOMS]
+    requires { ⌜ Stepping (now sums) letter row ⌝ }
+    ensures { λ r. ⌜ r ≡ stepCells kinds 8 (now (sums .entry)) letter row ⌝ }
 {
     let base = Question::ATOMS * letter;
+    let mut target = [0i32; Question::ATOMS];
     let mut i = 0;
     while i < Question::ATOMS {
-        if i < m {
-            row[i] = step_cell(kinds[i], keys[at + i], sums[base + i]);
-        }
+        target[i] = step_cell(kinds[i], row[i], sums[base + i]);
         i += 1;
     }
+    target
 }
 
 // What an atom is worth at its cell: a dead cell is below zero.
@@ -65,22 +82,20 @@ fn worth_cell(kind: u8, cell: i32) -> bool
     if kind == 1 { cell == 0 } else { 0 <= cell }
 }
 
-// Writes what each atom is worth at the key row that starts at cell `at` at the front of the worths that are lent: those past the atoms stay.
-pub fn worths_at(
-    kinds: &[u8; Question::ATOMS],
-    m: usize,
-    keys: &[i32],
-    at: usize,
-    worths: &mut [bool; Question::ATOMS],
-)
-    requires { ⌜ (m ≤ 8) × (at + m ≤ length (now keys)) × (m ≤ length (now worths)) ⌝ }
-    ensures { λ _. ⌜ now (worths .exit) ≡ atFront (worthCells (now (kinds .entry)) m (now (keys .entry)) at) (now (worths .entry)) ⌝ }
+// What each atom is worth at a row. Past the atoms there is something too, at which no formula looks.
+pub fn worths_of(
+    kinds: [u8; Question::ATOMS],
+    row: [i32; Question::ATOMS],
+) -> [bool; Question::ATOMS]
+    ensures { λ r. ⌜ r ≡ worthCells kinds row ⌝ }
 {
+    let mut worths = [false; Question::ATOMS];
     let mut i = 0;
-    while i < m {
-        worths[i] = worth_cell(kinds[i], keys[at + i]);
+    while i < Question::ATOMS {
+        worths[i] = worth_cell(kinds[i], row[i]);
         i += 1;
     }
+    worths
 }
 
 // The atoms' kinds in their order, 1 equation and 2 at most, with 0 past them; and how many there are.
@@ -98,62 +113,72 @@ pub fn kinds_of(codes: &[u8; Question::NODES]) -> Kinds
     let mut i = 0;
     while i < Question::NODES {
         let code = codes[i];
-        if 0 < code {
-            if code < 3 {
-                kinds[m] = code;
-                m += 1;
-            }
+        if is_atom(code) {
+            kinds[m] = code;
+            m += 1;
         }
         i += 1;
     }
     Kinds { kinds, m }
 }
 
-// The sum of the coefficients, n from cell `from` on, of the variables whose digit in the letter is 1.
-fn sum_at(n: usize, coefficients: &[i32; Question::COEFFICIENTS], from: usize, letter: usize) -> i32
-    requires { ⌜ (n ≤ 6) × (from + n ≤ 48) × (length (now coefficients) ≡ 48) × Small 4096 (take n (drop from (now coefficients))) ⌝ }
-    ensures { λ r. ⌜ r ≡ sumAt (take n (drop from (now (coefficients .entry)))) letter ⌝ }
+// What a digit adds to each atom's sum: its coefficients, with 0 past the atoms.
+fn digit_adds(
+    m: usize,
+    coefficients: &[i32; Question::COEFFICIENTS],
+    j: usize,
+) -> [i32; Question::ATOMS]
+    requires { ⌜ (m ≤ 8) × (j < 6) × (length (now coefficients) ≡ 48) ⌝ }
+    ensures { λ r. ⌜ r ≡ digitAdds m (now (coefficients .entry)) j ⌝ }
 {
-    let mut sum: i32 = 0;
-    let mut left = letter;
-    let mut j = 0;
-    while j < n {
-        if left % 2 == 1 {
-            sum = sum + coefficients[from + j];
-        }
-        left = left / 2;
-        j += 1;
+    let mut adds = [0i32; Question::ATOMS];
+    let mut i = 0;
+    while i < m {
+        adds[i] = coefficients[Question::VARIABLES * i + j];
+        i += 1;
     }
-    sum
+    adds
 }
 
-// How many letters there are.
-pub fn letters(n: usize) -> usize
-    requires { ⌜ n ≤ 6 ⌝ }
-    ensures { λ r. ⌜ (r ≡ 2 ^ n) × (r ≤ 64) ⌝ }
+// The sums of one letter, with what a digit adds to them, as those of another.
+fn digit_row(sums: &mut [i32; SUMS], from: usize, to: usize, adds: [i32; Question::ATOMS])
+    requires { ⌜ Adding adds (now sums) from to 8 ⌝ }
+    ensures { λ _. ⌜ Added adds (now (sums .entry)) (now (sums .exit)) from to 8 ⌝ }
 {
-    1 << n
+    let mut i = 0;
+    while i < Question::ATOMS {
+        sums[to + i] = sums[from + i] + adds[i];
+        i += 1;
+    }
 }
 
-// Each letter's sum of each atom, that of atom i at 8 * letter + i.
+// The sums of the first `count` letters, with what a digit adds to them, as those of as many letters more.
+fn digit_sums(sums: &mut [i32; SUMS], count: usize, adds: [i32; Question::ATOMS])
+    requires { ⌜ Adding adds (now sums) 0 (8 * count) (8 * count) ⌝ }
+    ensures { λ _. ⌜ Added adds (now (sums .entry)) (now (sums .exit)) 0 (8 * count) (8 * count) ⌝ }
+{
+    let mut letter = 0;
+    while letter < count {
+        digit_row(
+            sums,
+            Question::ATOMS * letter,
+            Question::ATOMS * (count + letter),
+            adds,
+        );
+        letter += 1;
+    }
+}
+
+// Each letter's sum of each atom, that of atom i at 8 * letter + i, with 0 past the atoms. A digit more doubles the letters.
 pub fn letter_sums(n: usize, m: usize, coefficients: &[i32; Question::COEFFICIENTS]) -> [i32; SUMS]
     requires { ⌜ Coefficients n m (now coefficients) ⌝ }
     ensures { λ r. ⌜ Sums n m (now (coefficients .entry)) r ⌝ }
 {
-    let end = Question::ATOMS * letters(n);
     let mut sums = [0i32; SUMS];
-    let mut k = 0;
-    while k < end {
-        let i = k % Question::ATOMS;
-        if i < m {
-            sums[k] = sum_at(
-                n,
-                coefficients,
-                Question::VARIABLES * i,
-                k / Question::ATOMS,
-            );
-        }
-        k += 1;
+    let mut j = 0;
+    while j < n {
+        digit_sums(&mut sums, letters(j), digit_adds(m, coefficients, j));
+        j += 1;
     }
     sums
 }

@@ -7,7 +7,7 @@ use mathlib.Core.List.{List, [], _∷_, map}
 use Prim.Native.Nat.{ℕ, zero, suc, _+_, _*_, _≤_, _<_}
 use native.Mathlib.Omega.{arith}
 use lib.Seq.{ext-getD}
-use lib.ListN.{length, getD, take, drop, length-take, length-map}
+use lib.ListN.{length, getD, drop, length-take, length-map}
 use lib.Dec.{T, leb→le}
 use lib.IntN.{ℤ, pos, negℤ, natAbs, _-ℤ_}
 use lib.Signed.{leZ, _≤ℤ_}
@@ -15,12 +15,12 @@ use Rattle.scope.specs.Whole.{all}
 use Rattle.scope.specs.Sizes.{mostVariables, mostCoefficient, mostConstant, coefficientFits, constantFits, numbersFit}
 use Rattle.scope.specs.declared.Question.{Question}
 use Rattle.scope.specs.Question.{Kind, Atom, nodesOf, kindsOf, coefficientsOf, constantOf, atomsFrom, atomsOf, atomCount}
-use Rattle.scope.specs.States.{Entry, dead, live, State, cellOf, cellsOf, deadCell, sumFrom, sumAt}
+use Rattle.scope.specs.States.{Entry, live, State, cellOf, cellsOf, deadCell, sumAt}
 use Rattle.scope.specs.Bound.{positives, negatives, lowest, highest}
 use Rattle.theory.specs.Bridge.{linear}
 use Rattle.theory.specs.Integers.{≤ℤ-trans}
 use Rattle.theory.specs.Magnitude.{abs-le, le-abs, abs-sub}
-use Rattle.theory.specs.Sums.{Small, positives-small, negatives-small, sum-fits, sumAt-small}
+use Rattle.theory.specs.Sums.{Small, positives-small, negatives-small, sumAt-small}
 use Rattle.theory.specs.Range.{EntryIn, in-dead, in-live, StateIn, in-[], in-∷, length-in}
 
 -- ---- atoms that fit
@@ -101,10 +101,6 @@ pos-le m n h = simp linear (omega arith)
 module _ {a : Atom} (f : AtomFits a) where
   pub sum-size : (letter : ℕ) → natAbs (sumAt (a .coefficients) letter) ≤ 24576
   sum-size letter = sumAt-small mostCoefficient mostVariables letter (a .coefficients) (f .small) (f .few)
-
-  -- of the first i coefficients
-  pub part-size : (letter i : ℕ) → natAbs (sumFrom letter 0 (take i (a .coefficients))) ≤ 24576
-  part-size letter i = sum-fits mostCoefficient mostVariables letter i (a .coefficients) (f .small) (f .few)
 
   lowest-size : negℤ (pos mostConstant) ≤ℤ lowest a
   unfolding lowest

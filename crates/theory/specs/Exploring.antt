@@ -157,6 +157,35 @@ module _ {S : Type 0} (m : Machine S) (ok : Lawful m) where
   partial-rooted i a h p =
       prefix-rooted m (partial-numbered m i a (suc i) h p (omega arith)) (omega (arith, partial-longer m i a)) (numbered-rooted m ok (suc i))
 
+  -- a letter that was tried leads to a state that has a row
+  tried-has : (l : Rows S) (i a : ℕ) → HasRow m (tried m l i a) (target m l i a)
+  unfolding tried addedIf
+  tried-has l i a = go (has m l (target m l i a)) refl
+    where
+      go : (b : Bool) → has m l (target m l i a) ≡ b → HasRow m (addedIf m b l (newRow m l i a)) (target m l i a)
+      go true e = has-true m ok l (target m l i a) e
+      go false e = record {
+        at = length l;
+        inside = simp length-append (omega arith);
+        is = ap (λ (r : Row S). r .state) (getD-append-seam l (newRow m l i a) [] (startRow m));
+      }
+
+  -- so a letter that leads where an earlier one of the row led has nothing to add
+  pub repeated-old : (i a b : ℕ) → i < length (numbered m i) → b < a → target m (partial m i a) i a ≡ target m (partial m i a) i b
+      → HasRow m (partial m i a) (target m (partial m i a) i a)
+  repeated-old i a b h below same =
+      let p : Prefix (partial m i (suc b)) (partial m i a) = rw (add-sub-of-le below) at (partial-prefix m i (suc b) (a - suc b)) in
+      let r : HasRow m (partial m i (suc b)) (target m (partial m i b) i b) = rw (partial-suc m i b) (tried-has (partial m i b) i b) in
+      record {
+        at = r .at;
+        inside = omega (arith, r .inside, prefix-length p);
+        is =
+            ap (λ (x : Row S). x .state) (prefix-row m (r .at) p (r .inside))
+            ∙ r .is
+            ∙ ap (λ (x : Row S). m .step (x .state) b) (partial-row m i b h ∙ sym (partial-row m i a h))
+            ∙ sym same;
+      }
+
   -- a state's row is its number, also once more rows have come
   pub prefix-number : (r : ℕ) {l : Rows S} → Prefix l (numbered m r) → (t : ℕ) → t < length l → {s : S} → row m l t .state ≡ s → numberOf m (numbered m r) s ≡ t
   prefix-number r p t h e =
@@ -174,14 +203,15 @@ module _ {S : Type 0} (m : Machine S) (ok : Lawful m) where
 
       -- ---- found, at the new row
 
+      pub found-row : row m (numbered m r) (length (partial m i a)) ≡ newRow m (partial m i a) i a
+      found-row = prefix-row m (length (partial m i a)) grown-numbered (omega (arith, grown-length m i a)) ∙ grown-row m i a
+
       pub found-end : length (partial m i a) < r → NoneOf m (partial m i a) (length (partial m i a)) → m .accepts (target m (partial m i a) i a) ≡ true
           → verdict m r (numbered m r) ≡ found (length (partial m i a))
       found-end h n e =
           let c = length (partial m i a) in
           let p = partial-numbered m i a r there (omega arith) room in
-          let q : c < length (grown m i a) = omega (arith, grown-length m i a) in
-          verdict-by m
-          (is-found c h (omega (arith, prefix-length grown-numbered)) (rw (prefix-row m c grown-numbered q, grown-row m i a) e) (prefix-none m p n))
+          verdict-by m (is-found c h (omega (arith, grown-length m i a, prefix-length grown-numbered)) (rw found-row e) (prefix-none m p n))
 
       pub found-counted : counted (found (length (partial m i a))) r (numbered m r) ≡ grown m i a
       found-counted = rw (grown-numbered .is) (take-at (grown m i a) _ (suc (length (partial m i a))) (grown-length m i a))

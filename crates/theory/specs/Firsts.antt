@@ -20,7 +20,7 @@ module _ {S : Type 0} (m : Machine S) where
   after-▹ s [] a = refl
   after-▹ s (b ∷ w) a = after-▹ (m .step s b) w a
 
-  word-start : (l : Rows S) → wordOf m l 0 ≡ []
+  pub word-start : (l : Rows S) → wordOf m l 0 ≡ []
   unfolding wordOf wordWithin
   word-start l = refl
 

@@ -1,6 +1,6 @@
 -- A machine whose `same` tests equality, as the numbering's laws ask from `has` on; a question's machine is one.
 use mathlib.Core.Path.{_≡_, refl, sym, ap, ap₂}
-use mathlib.Core.Bool.{Bool, true, false, _&&_, true≢false}
+use mathlib.Core.Bool.{true, true≢false, and-eq-true-iff}
 use mathlib.Core.List.{[], _∷_}
 use lib.Ieee.Bits.{is-true}
 use Rattle.scope.specs.declared.Question.{Question}
@@ -12,10 +12,6 @@ use Rattle.theory.specs.Integers.{eqZ→eq, eq→eqZ}
 pub record Lawful {S : Type 0} (m : Machine S) : Type 0 where
   pub same-sound : (s t : S) → m .same s t ≡ true → s ≡ t
   pub same-refl : (s : S) → m .same s s ≡ true
-
-and-true : (a b : Bool) → a && b ≡ true → (a ≡ true) × (b ≡ true)
-and-true true b e = (refl, e)
-and-true false b e = absurd (true≢false (sym e))
 
 pub same-entry-sound : (d e : Entry) → sameEntry d e ≡ true → d ≡ e
 unfolding sameEntry
@@ -35,7 +31,7 @@ same-state-sound [] [] p = refl
 same-state-sound [] (e ∷ es) p = absurd (true≢false (sym p))
 same-state-sound (d ∷ ds) [] p = absurd (true≢false (sym p))
 same-state-sound (d ∷ ds) (e ∷ es) p =
-    let b = and-true (sameEntry d e) (sameState ds es) p in
+    let b = and-eq-true-iff (sameEntry d e) (sameState ds es) .0 p in
     ap₂ _∷_ (same-entry-sound d e (b .0)) (same-state-sound ds es (b .1))
 
 pub same-state-refl : (s : State) → sameState s s ≡ true

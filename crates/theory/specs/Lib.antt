@@ -1,10 +1,13 @@
 -- Theorems on the definitions of `scope`, before there is any code. docs/PROMISES.md says which theorem meets which demand.
 
--- whole numbers: a bridge to linear arithmetic, laws, halving, sizes, letter sums
+-- tests, and tests of every element
+pub mod Tests
+-- whole numbers: a bridge to linear arithmetic, laws, halving, sizes, bits, letter sums
 pub mod Bridge
 pub mod Integers
 pub mod Half
 pub mod Magnitude
+pub mod Bits
 pub mod Sums
 pub mod Pigeonhole
 -- words and what they spell, and that a step keeps the meaning

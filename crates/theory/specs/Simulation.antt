@@ -43,6 +43,12 @@ module _ {S : Type 0} {Good : S → Type 0} where
   good-take (suc n) good-[] = good-[]
   good-take (suc n) (good-∷ f k) = good-∷ f (good-take n k)
 
+-- a good row, by its number
+pub good-at : {S : Type 0} {Good : S → Type 0} (m : Machine S) {l : Rows S} → AllGood Good l → (t : ℕ) → t < length l → Good (row m l t .state)
+good-at m good-[] t h = absurd (omega arith)
+good-at m (good-∷ k ks) zero h = k
+good-at m (good-∷ k ks) (suc t) h = good-at m ks t (omega arith)
+
 take-map : {A B : Type 0} (f : A → B) (n : ℕ) (l : List A) → take n (map f l) ≡ map f (take n l)
 take-map f zero [] = refl
 take-map f zero (x ∷ l) = refl

@@ -1,12 +1,12 @@
 -- A letter's sum, one coefficient after another, and its size where each coefficient is at most B in size.
-use mathlib.Core.Path.{_≡_, sym, ap, _∙_}
+use mathlib.Core.Path.{_≡_, refl, sym, ap, _∙_}
 use mathlib.Core.Bool.{Bool, true, false, cond}
 use mathlib.Core.List.{List, [], _∷_}
-use Prim.Native.Nat.{ℕ, zero, suc, _+_, _*_, _/_, _%_, _^_, _≤_, _<_, zero-le}
+use Prim.Native.Nat.{ℕ, zero, suc, _+_, _-_, _*_, _^_, _≤_, _<_, zero-le}
 use native.Mathlib.Omega.{arith}
-use native.Mathlib.Nat.{pow-suc, add-zero, zero-add, div-div-eq-div-mul, mul-le-mul-left, le-trans}
+use native.Mathlib.Nat.{pow-suc, add-zero, zero-add, add-mul-div-left, div-eq-of-lt, mul-le-mul-left, le-trans}
 use native.Mathlib.Numerals.{add-one}
-use lib.Seq.{take-all}
+use lib.Pow.{pow-add, pow-pos}
 use lib.ListN.{length, getD, take, length-take}
 use lib.Dec.{eqb}
 use lib.IntN.{ℤ, pos, negsuc, natAbs, _+ℤ_, +ℤ-assoc, +ℤ-idl, +ℤ-idr}
@@ -56,19 +56,17 @@ negatives-small B [] h = zero-le
 negatives-small B (pos a ∷ cs) h = omega (arith, negatives-small B cs (h .1))
 negatives-small B (negsuc a ∷ cs) h = omega (arith, negatives-small B cs (h .1), h .0)
 
--- where there are at most n coefficients, of the first i of them
-pub sum-fits : (B n letter i : ℕ) (a : List ℤ) → Small B a → length a ≤ n → natAbs (sumFrom letter 0 (take i a)) ≤ B * n
-sum-fits B n letter i a h k = le-trans (sum-small B letter 0 (take i a) (small-take B i a h)) (mul-le-mul-left B fewer)
-  where
-    fewer : length (take i a) ≤ n
-    fewer = omega (arith, length-take i a)
+-- where there are at most n coefficients
+pub sumAt-small : (B n letter : ℕ) (a : List ℤ) → Small B a → length a ≤ n → natAbs (sumAt a letter) ≤ B * n
+unfolding sumAt
+sumAt-small B n letter a h k = le-trans (sum-small B letter 0 a h) (mul-le-mul-left B k)
 
 -- ---- the sum of the first coefficients, then one more
 
 taken-first : (z : ℤ) → z +ℤ pos 0 ≡ pos 0 +ℤ z
 taken-first z = +ℤ-idr z ∙ sym (+ℤ-idl z)
 
-pub sum-next : (letter j i : ℕ) (a : List ℤ) → i < length a
+sum-next : (letter j i : ℕ) (a : List ℤ) → i < length a
     → sumFrom letter j (take (suc i) a) ≡ sumFrom letter j (take i a) +ℤ cond (eqb (digit letter (j + i)) 1) (getD a i (pos 0)) (pos 0)
 unfolding sumFrom
 sum-next letter j i [] h = absurd (omega arith)
@@ -82,26 +80,43 @@ sum-next letter j (suc i) (a ∷ cs) h =
     ∙ sym (+ℤ-assoc first rest (cond (eqb (digit letter (suc j + i)) 1) (getD cs i (pos 0)) (pos 0)))
     ∙ ap (λ (k : ℕ). (first +ℤ rest) +ℤ cond (eqb (digit letter k) 1) (getD cs i (pos 0)) (pos 0)) e
 
--- by the test of the next digit, on what is left of the letter
-module _ (letter i : ℕ) (a : List ℤ) (h : i < length a) where
-  pub next-yes : letter / 2 ^ i % 2 ≡ 1 → sumFrom letter 0 (take (i + 1) a) ≡ sumFrom letter 0 (take i a) +ℤ getD a i (pos 0)
+-- ---- one digit more: a letter below 2 ^ i is without digit i, and 2 ^ i + letter is the same with it
+
+module _ (letter i : ℕ) where
+  digit-none : letter < 2 ^ i → digit letter i ≡ 0
   unfolding digit
-  next-yes e = rw (add-one i) (sum-next letter 0 i a h ∙ rw (zero-add i, e))
+  digit-none l = rw (div-eq-of-lt l)
 
-  pub next-no : (letter / 2 ^ i % 2 ≡ 1 → ⊥) → sumFrom letter 0 (take (i + 1) a) ≡ sumFrom letter 0 (take i a)
+  digit-one : letter < 2 ^ i → digit (2 ^ i + letter) i ≡ 1
   unfolding digit
-  next-no f =
-      let e : letter / 2 ^ i % 2 ≡ 0 = omega arith in
-      rw (add-one i) (sum-next letter 0 i a h ∙ rw (zero-add i, e) (+ℤ-idr (sumFrom letter 0 (take i a))))
+  digit-one l =
+      let e : 2 ^ i + letter ≡ letter + 2 ^ i * 1 = omega arith in
+      rw (e, add-mul-div-left letter 1 {y = 2 ^ i} (omega arith), div-eq-of-lt l)
 
-pub half-letter : (letter i : ℕ) → letter / 2 ^ i / 2 ≡ letter / 2 ^ (i + 1)
-half-letter letter i = rw (add-one i, pow-suc 2 i) (div-div-eq-div-mul letter (2 ^ i) 2)
+  -- the lower digits are the same
+  digit-lower : (j : ℕ) → j < i → digit (2 ^ i + letter) j ≡ digit letter j
+  unfolding digit
+  digit-lower j h =
+      let rest : ℕ = 2 ^ (i - suc j) in
+      let s : i ≡ j + suc (i - suc j) = omega arith in
+      let p : 2 ^ i ≡ 2 ^ j * (rest * 2) = ap (λ (k : ℕ). 2 ^ k) s ∙ pow-add 2 j (suc (i - suc j)) ∙ rw (pow-suc 2 (i - suc j)) in
+      let e : 2 ^ i + letter ≡ letter + 2 ^ j * (rest * 2) = omega (arith, p) in
+      rw (e, add-mul-div-left letter (rest * 2) {y = 2 ^ j} (pow-pos j)) (omega arith)
 
-pub sum-whole : (letter : ℕ) (a : List ℤ) (i : ℕ) → length a ≤ i → sumFrom letter 0 (take i a) ≡ sumAt a letter
-unfolding sumAt
-sum-whole letter a i h = rw (take-all i a h)
+-- letters of the same digits have the same sum
+sum-alike : (a b j : ℕ) (cs : List ℤ) (end : ℕ) → j + length cs ≤ end → ((k : ℕ) → k < end → digit a k ≡ digit b k) → sumFrom a j cs ≡ sumFrom b j cs
+unfolding sumFrom
+sum-alike a b j [] end h same = refl
+sum-alike a b j (c ∷ cs) end h same = rw (same j (omega arith), sum-alike a b (suc j) cs end (omega arith) same)
 
-pub sumAt-small : (B n letter : ℕ) (a : List ℤ) → Small B a → length a ≤ n → natAbs (sumAt a letter) ≤ B * n
-sumAt-small B n letter a h k =
-    let whole : length a ≤ length a = omega arith in
-    rw (sum-whole letter a (length a) whole) at (sum-fits B n letter (length a) a h k)
+module _ (a : List ℤ) (i : ℕ) (h : i < length a) (letter : ℕ) (l : letter < 2 ^ i) where
+  pub sum-without : sumAt (take (i + 1) a) letter ≡ sumAt (take i a) letter
+  unfolding sumAt
+  sum-without = rw (add-one i) (sum-next letter 0 i a h ∙ rw (zero-add i, digit-none letter i l) (+ℤ-idr (sumFrom letter 0 (take i a))))
+
+  pub sum-with : sumAt (take (i + 1) a) (2 ^ i + letter) ≡ sumAt (take i a) letter +ℤ getD a i (pos 0)
+  unfolding sumAt
+  sum-with =
+      let few : 0 + length (take i a) ≤ i = omega (arith, length-take i a) in
+      rw (add-one i)
+      (sum-next (2 ^ i + letter) 0 i a h ∙ rw (zero-add i, digit-one letter i l, sum-alike (2 ^ i + letter) letter 0 (take i a) i few (digit-lower letter i)))

@@ -12,7 +12,7 @@ use Rattle.scope.specs.Whole.{atFront}
 use Rattle.scope.specs.Sizes.{variablesFit}
 use Rattle.scope.specs.Refusals.{firstRefusal}
 use Rattle.scope.specs.Words.{Word, lettersFit, spelled, spelt}
-use Rattle.words.specs.Tests.{from-one}
+use Rattle.theory.specs.Tests.{from-one}
 use Rattle.told.specs.Values.{Spellable, spelt-value}
 use Rattle.told.specs.Text.{ascii, numbers, valuesSaid, longest, textOf, Telling, telling, told, Tells}
 

@@ -3,15 +3,13 @@ ghost use Prim.Native.Nat.{_≤_};
 ghost use lib.ListN.{length};
 use crate::lines::word;
 use crate::numbers::size;
+use scope::Question;
+use scope::is_atom;
 
 // What a question's rows are like: the entries of a key row and the cells of a table's row.
 pub struct Rows {
     pub atoms: usize,
     pub width: usize,
-}
-
-fn is_atom(code: u8) -> bool {
-    code == 1 || code == 2
 }
 
 fn atoms_of(codes: &[u8]) -> usize {

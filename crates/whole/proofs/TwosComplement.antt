@@ -7,7 +7,7 @@ use lib.Signed.{ltZ}
 use mathlib.Core.Bool.{true, false, true≢false}
 use mir.Syntax.{w32, w64}
 use mir.Val.{SFits, ofZ, toZ}
-use mir.ValLaws.{toZ-ofZ, toZ-pos, toZ-fits}
+use mir.ValLaws.{toZ-pos, toZ-fits}
 use borrow.Author.Tests.{le-ltb, lt-ltb, ltb-true}
 
 -- the bits of a number below zero, less 2 ^ 32
@@ -16,13 +16,6 @@ below-zero v l h = rw (toZ-pos w64 v (omega arith), le-ltb v 2147483648 l, lt-lt
 
 pub fits-32 : (v : ℕ) → v < 4294967296 → SFits w32 (toZ w32 v)
 fits-32 v h = toZ-fits w32 v (record { fits = h })
-
-pub fits-64 : {z : ℤ} → SFits w32 z → SFits w64 z
-fits-64 f = record { sfits = omega (arith, f .sfits) }
-
--- a number, read from its bits and widened
-pub widened : (z : ℤ) → SFits w32 z → toZ w64 (ofZ w64 (toZ w32 (ofZ w32 z))) ≡ z
-widened z f = rw (toZ-ofZ w32 z f) (toZ-ofZ w64 z (fits-64 f))
 
 pub bits-below : (z : ℤ) → SFits w32 z → ltZ z (pos 0) ≡ true → z +ℤ pos 4294967296 ≡ pos (ofZ w32 z)
 bits-below (pos n) f t = let h : n < 0 = ltb-true n 0 t in absurd (omega arith)

@@ -13,6 +13,7 @@ use lib.Seq.{sets}
 use Rattle.scope.specs.Whole.{all}
 use Rattle.scope.specs.Sizes.{coefficientFits, constantFits, numbersFit}
 use Rattle.scope.specs.Wire.{numberAt, numbersAt}
+use Rattle.wire.specs.Steps.{RowTaken, AtomTaken}
 
 -- the limit is suc k
 pub too-low : (z : ℤ) (k : ℕ) → ltZ z (negsuc k) ≡ true → leb (natAbs z) (suc k) ≡ false
@@ -27,61 +28,65 @@ numbers-suc : (m : ℕ) (b : List ℕ) (at : ℕ) → numbersAt (suc m) b at ≡
 unfolding numbersAt
 numbers-suc m b at = refl
 
-module _ (b : List ℕ) (n i : ℕ) where
-  numbers-next : i < n → numbersAt (n - i) b (4 * i) ≡ numberAt b (4 * i) ∷ numbersAt (n - (i + 1)) b (4 * (i + 1))
+module _ (b : List ℕ) (start n i : ℕ) where
+  numbers-next : i < n → numbersAt (n - i) b (start + 4 * i) ≡ numberAt b (start + 4 * i) ∷ numbersAt (n - (i + 1)) b (start + 4 * (i + 1))
   numbers-next h =
       let e : n - i ≡ suc (n - (i + 1)) = omega arith in
-      let d : 4 * (i + 1) ≡ 4 * i + 4 = omega arith in
-      rw (e, d) (numbers-suc (n - (i + 1)) b (4 * i))
+      let d : start + 4 * (i + 1) ≡ start + 4 * i + 4 = omega arith in
+      rw (e, d) (numbers-suc (n - (i + 1)) b (start + 4 * i))
 
-  numbers-done : n ≤ i → numbersAt (n - i) b (4 * i) ≡ []
+  numbers-done : n ≤ i → numbersAt (n - i) b (start + 4 * i) ≡ []
   unfolding numbersAt
   numbers-done h = let e : n - i ≡ 0 = omega arith in rw e
 
-fits-next : (b : List ℕ) (n i : ℕ) → i < n
-    → all coefficientFits (numbersAt (n - i) b (4 * i)) ≡ coefficientFits (numberAt b (4 * i)) && all coefficientFits (numbersAt (n - (i + 1)) b (4 * (i + 1)))
-unfolding all
-fits-next b n i h = ap (all coefficientFits) (numbers-next b n i h)
-
--- whether the coefficients from i on fit says whether all do
-abbrev pub FitFrom : List ℕ → ℕ → ℕ → Type 0
-FitFrom b n i = (i ≤ n) × (all coefficientFits (numbersAt (n - i) b (4 * i)) ≡ all coefficientFits (numbersAt n b 0))
-
-module _ (b : List ℕ) (n i : ℕ) where
-  pub fits-again : i < n → coefficientFits (numberAt b (4 * i)) ≡ true → FitFrom b n i → FitFrom b n (i + 1)
-  fits-again h f inv = (omega arith, rw f at (sym (fits-next b n i h)) ∙ inv .1)
-
-  pub fits-not : (z : ℤ) → i < n → coefficientFits (numberAt b (4 * i)) ≡ false → FitFrom b n i → false ≡ numbersFit (numbersAt n b 0) z
-  unfolding numbersFit
-  fits-not z h f inv =
-      let e : all coefficientFits (numbersAt n b 0) ≡ false = sym (inv .1) ∙ fits-next b n i h ∙ rw f in
-      rw e
-
-  pub fits-whole : (z : ℤ) → n ≤ i → FitFrom b n i → constantFits z ≡ numbersFit (numbersAt n b 0) z
-  unfolding numbersFit all
-  fits-whole z h inv =
-      let e : all coefficientFits (numbersAt n b 0) ≡ true = sym (inv .1) ∙ ap (all coefficientFits) (numbers-done b n i h) in
-      rw e
-
--- the coefficients from i on are still to be put
-pub record PutFrom (l₀ l : List ℤ) (cell : ℕ) (b : List ℕ) (n i : ℕ) : Type 0 where
+-- the coefficients from i on are still to be taken, and whether they fit says whether all do
+pub record TakenFrom (b : List ℕ) (start n cell : ℕ) (l₀ l : List ℤ) (i : ℕ) : Type 0 where
   pub within : i ≤ n
   pub same : length l ≡ length l₀
-  pub rest : sets l (cell + i) (numbersAt (n - i) b (4 * i)) ≡ sets l₀ cell (numbersAt n b 0)
+  pub fits : all coefficientFits (numbersAt (n - i) b (start + 4 * i)) ≡ all coefficientFits (numbersAt n b start)
+  pub rest : sets l (cell + i) (numbersAt (n - i) b (start + 4 * i)) ≡ sets l₀ cell (numbersAt n b start)
 
-module _ (l₀ l : List ℤ) (cell : ℕ) (b : List ℕ) (n i : ℕ) where
-  pub put-start : PutFrom l₀ l₀ cell b n 0
-  put-start = let z : cell + 0 ≡ cell = omega arith in let y : n - 0 ≡ n = omega arith in
-      record { within = omega arith; same = refl; rest = rw (z, y) }
+module _ (b : List ℕ) (start n cell : ℕ) (l₀ : List ℤ) where
+  pub taken-start : TakenFrom b start n cell l₀ l₀ 0
+  taken-start =
+      let z : cell + 0 ≡ cell = omega arith in
+      let y : n - 0 ≡ n = omega arith in
+      let x : start + 4 * 0 ≡ start = omega arith in
+      record { within = omega arith; same = refl; fits = rw (y, x); rest = rw (z, y, x) }
 
-  pub put-again : (v : ℤ) → v ≡ numberAt b (4 * i) → i < n → PutFrom l₀ l cell b n i → PutFrom l₀ (set l (cell + i) v) cell b n (i + 1)
-  put-again v e h inv =
-      let d : cell + (i + 1) ≡ suc (cell + i) = omega arith in
-      record {
-        within = omega arith;
-        same = length-set l (cell + i) v ∙ inv .same;
-        rest = rw (d, e) (rw (numbers-next b n i h) at (inv .rest));
-      }
+  module _ (l : List ℤ) (i : ℕ) (inv : TakenFrom b start n cell l₀ l i) where
+    fits-next : i < n
+        → coefficientFits (numberAt b (start + 4 * i)) && all coefficientFits (numbersAt (n - (i + 1)) b (start + 4 * (i + 1))) ≡ all coefficientFits (numbersAt n b start)
+    unfolding all
+    fits-next h = sym (ap (all coefficientFits) (numbers-next b start n i h)) ∙ inv .fits
 
-  pub put-whole : n ≤ i → PutFrom l₀ l cell b n i → l ≡ sets l₀ cell (numbersAt n b 0)
-  put-whole h inv = rw (numbers-done b n i h) at (inv .rest)
+    pub taken-again : (v : ℤ) → v ≡ numberAt b (start + 4 * i) → i < n → coefficientFits (numberAt b (start + 4 * i)) ≡ true → TakenFrom b start n cell l₀ (set l (cell + i) v) (i + 1)
+    taken-again v e h f =
+        let d : cell + (i + 1) ≡ suc (cell + i) = omega arith in
+        record {
+          within = omega arith;
+          same = length-set l (cell + i) v ∙ inv .same;
+          fits = rw f at (fits-next h);
+          rest = rw (d, e) (rw (numbers-next b start n i h) at (inv .rest));
+        }
+
+    pub taken-not : (after : List ℤ) → i < n → coefficientFits (numberAt b (start + 4 * i)) ≡ false → RowTaken (numbersAt n b start) cell l₀ false after
+    taken-not after h f = record { fits = rw f at (fits-next h); put = λ e. let z : _≡_ {A = ℕ} 0 1 = cc in absurd (omega arith) }
+
+    pub taken-whole : n ≤ i → RowTaken (numbersAt n b start) cell l₀ true l
+    unfolding all
+    taken-whole h = record {
+      fits = rw (numbers-done b start n i h) at (inv .fits);
+      put = λ e. rw (numbers-done b start n i h) at (inv .rest);
+    }
+
+-- ---- an atom, by its row and its constant
+
+module _ (row : List ℤ) (constant : ℤ) (atom : ℕ) (coefficients₀ constants₀ coefficients₁ constants₁ : List ℤ) (put : constants₁ ≡ set constants₀ atom constant) where
+  pub atom-taken : RowTaken row (6 * atom) coefficients₀ true coefficients₁ → AtomTaken row constant atom coefficients₀ constants₀ (constantFits constant) coefficients₁ constants₁
+  unfolding numbersFit
+  atom-taken t = record { fits = rw (sym (t .fits)); coefficients = λ e. t .put refl; constants = put }
+
+  pub atom-beyond : RowTaken row (6 * atom) coefficients₀ false coefficients₁ → AtomTaken row constant atom coefficients₀ constants₀ false coefficients₁ constants₁
+  unfolding numbersFit
+  atom-beyond t = record { fits = rw (sym (t .fits)); coefficients = λ e. let z : _≡_ {A = ℕ} 0 1 = cc in absurd (omega arith); constants = put }

@@ -17,7 +17,7 @@ use Rattle.scope.specs.Whole.{all, allFrom}
 use Rattle.scope.specs.Sizes.{variablesFit, coefficientFits, constantFits, numbersFit}
 use Rattle.scope.specs.Question.{Node, nodeOf, isUnused, isAtom, coefficientsOf, constantOf}
 use Rattle.scope.specs.Refusals.{Check, check, refusal, unlessPassed, firstRefusal, Progress, stopped, going, ended, orStopped, onward}
-use Rattle.scope.specs.Wire.{bodyLength, unread, endKind}
+use Rattle.scope.specs.Wire.{unread, endKind}
 use Rattle.scope.specs.Writing.{recordBytes, Walk, headWritten, partWritten, numbersClear, leftOver, endWritten, written}
 use Rattle.wire.specs.declared.reading.NodeAnswer.{NodeAnswer}
 use Rattle.wire.specs.Steps.{nodeOr}
@@ -51,6 +51,11 @@ module _ (q : Question) (a : ℕ) where
   pub cells-left : allFrom (coefficientClear (q .n) a) 0 (q .coefficients) ≡ false → false ≡ numbersClear q a
   unfolding numbersClear
   cells-left e = rw e
+
+  -- the codes have no part in it
+  pub clear-alone : numbersClear (numbered (q .n) (q .coefficients) (q .constants)) a ≡ numbersClear q a
+  unfolding numbersClear
+  clear-alone = refl
 
 -- ---- a node's code
 
@@ -104,7 +109,7 @@ module _ (q : Question) (nodes atoms depth : ℕ) where
   fit = not (isAtom x) || numbersFit (coefficientsOf q atoms) (constantOf q atoms)
 
   abbrev answer : Option Refusal → NodeAnswer
-  answer o = nodeOr o (q .n) x
+  answer o = nodeOr o x
 
   pub code-full : 64 ≤ nodes → NodeAnswer.Refused (refusal 5 nodes) ≡ codeAnswer q nodes atoms depth
   code-full h = sym (ap answer (five-full nodes (ltb nodes 64) (not (isUnused x)) few (leb depth 16) fit (le-ltb nodes 64 h)))
@@ -122,15 +127,14 @@ module _ (q : Question) (nodes atoms depth : ℕ) where
         left t f = sym (ap answer (five-left nodes (ltb nodes 64) (not (isUnused x)) few (leb depth 16) fit (lt-ltb nodes 64 h) u e)
             ∙ ap (λ (v : Bool). answer (unlessPassed v (refusal 4 nodes) none)) f)
 
-        passed : (len : ℕ) → len ≡ bodyLength (q .n) x → fit ≡ true → NodeAnswer.Node (getD (q .codes) nodes 0) len ≡ codeAnswer q nodes atoms depth
-        passed len l f = (λ i. NodeAnswer.Node (sym (code-of-node (getD (q .codes) nodes 0) (used-small (getD (q .codes) nodes 0) u)) i) (l i)) ∙ left true f
+        passed : fit ≡ true → NodeAnswer.Node (getD (q .codes) nodes 0) ≡ codeAnswer q nodes atoms depth
+        passed f = ap NodeAnswer.Node (sym (code-of-node (getD (q .codes) nodes 0) (used-small (getD (q .codes) nodes 0) u))) ∙ left true f
 
-        pub code-plain : (len : ℕ) → len ≡ bodyLength (q .n) x → isAtom x ≡ false → NodeAnswer.Node (getD (q .codes) nodes 0) len ≡ codeAnswer q nodes atoms depth
-        code-plain len l a = passed len l (rw a)
+        pub code-plain : isAtom x ≡ false → NodeAnswer.Node (getD (q .codes) nodes 0) ≡ codeAnswer q nodes atoms depth
+        code-plain a = passed (rw a)
 
-        pub code-atom : (len : ℕ) → len ≡ bodyLength (q .n) x → isAtom x ≡ true → numbersFit (coefficientsOf q atoms) (constantOf q atoms) ≡ true
-            → NodeAnswer.Node (getD (q .codes) nodes 0) len ≡ codeAnswer q nodes atoms depth
-        code-atom len l a f = passed len l (rw (a, f))
+        pub code-atom : isAtom x ≡ true → numbersFit (coefficientsOf q atoms) (constantOf q atoms) ≡ true → NodeAnswer.Node (getD (q .codes) nodes 0) ≡ codeAnswer q nodes atoms depth
+        code-atom a f = passed (rw (a, f))
 
         pub code-beyond : isAtom x ≡ true → numbersFit (coefficientsOf q atoms) (constantOf q atoms) ≡ false → NodeAnswer.Refused (refusal 4 nodes) ≡ codeAnswer q nodes atoms depth
         code-beyond a f = left false (rw (a, f))
@@ -145,28 +149,26 @@ atom-few true atoms depth e a = few-of (ltb atoms 8) atoms depth refl e
 atom-few false atoms depth e a = let z : _≡_ {A = ℕ} 0 1 = cc in absurd (omega arith)
 
 -- a code that passed every check
-pub record CodeTaken (q : Question) (nodes atoms depth code len : ℕ) : Type 0 where
+pub record CodeTaken (q : Question) (nodes atoms depth code : ℕ) : Type 0 where
   pub passed : firstRefusal (codeCheckList q nodes atoms depth) ≡ none
   pub node : nodeOf code ≡ codeNode q nodes
-  pub lenIs : len ≡ bodyLength (q .n) (codeNode q nodes)
   pub used : 1 ≤ code
   pub small : code ≤ 5
   pub room : nodes < 64
   pub few : isAtom (codeNode q nodes) ≡ true → atoms < 8
   pub shallow : depth ≤ 16
 
-pub code-taken : (q : Question) (nodes atoms depth code len : ℕ) → codeAnswer q nodes atoms depth ≡ NodeAnswer.Node code len → CodeTaken q nodes atoms depth code len
-code-taken q nodes atoms depth code len e =
+pub code-taken : (q : Question) (nodes atoms depth code : ℕ) → codeAnswer q nodes atoms depth ≡ NodeAnswer.Node code → CodeTaken q nodes atoms depth code
+code-taken q nodes atoms depth code e =
     let x = codeNode q nodes in
     let c = getD (q .codes) nodes 0 in
-    let h = node-none (firstRefusal (codeCheckList q nodes atoms depth)) (q .n) x code len e in
+    let h = node-none (firstRefusal (codeCheckList q nodes atoms depth)) x code e in
     let f = five-facts nodes (ltb nodes 64) (not (isUnused x)) (not (isAtom x) || ltb atoms 8) (leb depth 16) _ (h .0) in
     let s = used-small c (f .1 .0) in
-    let k : code ≡ c = h .1 .0 ∙ code-of-node c s in
+    let k : code ≡ c = h .1 ∙ code-of-node c s in
     record {
       passed = h .0;
       node = ap nodeOf k;
-      lenIs = h .1 .1;
       used = rw k (used-first c (f .1 .0));
       small = rw k s;
       room = ltb-true nodes 64 (f .0);
@@ -175,7 +177,7 @@ code-taken q nodes atoms depth code len e =
     }
 
 pub code-refused : (q : Question) (nodes atoms depth : ℕ) (r : Refusal) → codeAnswer q nodes atoms depth ≡ NodeAnswer.Refused r → firstRefusal (codeCheckList q nodes atoms depth) ≡ some r
-code-refused q nodes atoms depth r e = node-some (firstRefusal (codeCheckList q nodes atoms depth)) (q .n) (codeNode q nodes) r e
+code-refused q nodes atoms depth r e = node-some (firstRefusal (codeCheckList q nodes atoms depth)) (codeNode q nodes) r e
 
 -- ---- every check on a held question
 

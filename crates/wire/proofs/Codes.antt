@@ -45,16 +45,6 @@ two-code (suc (suc (suc (suc zero)))) h k = (refl, refl)
 two-code (suc (suc (suc (suc (suc zero))))) h k = (refl, refl)
 two-code (suc (suc (suc (suc (suc (suc c)))))) h k = absurd (omega arith)
 
-pub atom-test : (c : ℕ) → (c ≡ 0 → ⊥) → leb c 2 ≡ isAtom (nodeOf c)
-atom-test zero h = absurd (h refl)
-atom-test (suc zero) h = refl
-atom-test (suc (suc zero)) h = refl
-atom-test (suc (suc (suc zero))) h = refl
-atom-test (suc (suc (suc (suc zero)))) h = refl
-atom-test (suc (suc (suc (suc (suc zero))))) h = refl
-atom-test (suc (suc (suc (suc (suc (suc c)))))) h =
-    rw (lt-leb (suc (suc (suc (suc (suc (suc c)))))) 2 (omega arith), other-code (suc (suc (suc (suc (suc (suc c)))))) (omega arith))
-
 pub node-test : (c : ℕ) → (c ≡ 0 → ⊥) → leb c 5 ≡ not (isUnused (nodeOf c))
 node-test zero h = absurd (h refl)
 node-test (suc zero) h = refl

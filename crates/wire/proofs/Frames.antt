@@ -124,24 +124,24 @@ module _ (b : List ℕ) (at n kind len code : ℕ) (h : HeaderFound b at kind le
   length-is l = sym (h .lenIs) ∙ l ∙ ap (bodyLength n) node-is
 
   pub node-kind : code ≡ 0 → NodeAnswer.Refused (refusal 2 at) ≡ nodeFrame b at n
-  node-kind u = sym (ap (λ (o : Option Refusal). nodeOr o n (nodeHere b at)) (wrong-kind at (headerThere b at) (not (isUnused (nodeHere b at))) sized (bodyThere b at)
+  node-kind u = sym (ap (λ (o : Option Refusal). nodeOr o (nodeHere b at)) (wrong-kind at (headerThere b at) (not (isUnused (nodeHere b at))) sized (bodyThere b at)
       (le-leb _ _ (h .there)) (rw (unused-yes (nodeHere b at) (sym code-here ∙ u)))))
 
   pub node-length : (code ≡ 0 → ⊥) → (len ≡ bodyLength n (nodeOf code) → ⊥) → NodeAnswer.Refused (refusal 3 at) ≡ nodeFrame b at n
-  node-length u l = sym (ap (λ (o : Option Refusal). nodeOr o n (nodeHere b at)) (wrong-length at (headerThere b at) (not (isUnused (nodeHere b at))) sized (bodyThere b at)
+  node-length u l = sym (ap (λ (o : Option Refusal). nodeOr o (nodeHere b at)) (wrong-length at (headerThere b at) (not (isUnused (nodeHere b at))) sized (bodyThere b at)
       (le-leb _ _ (h .there)) (used u) (ne-eqb (lengthAt b at) (bodyLength n (nodeHere b at)) (λ z. l (h .lenIs ∙ z ∙ sym (ap (bodyLength n) node-is))))))
 
   pub node-cut : (code ≡ 0 → ⊥) → len ≡ bodyLength n (nodeOf code) → length b < at + 4 + len → NodeAnswer.Refused (refusal 1 at) ≡ nodeFrame b at n
-  node-cut u l c = sym (ap (λ (o : Option Refusal). nodeOr o n (nodeHere b at)) (body-cut at (headerThere b at) (not (isUnused (nodeHere b at))) sized (bodyThere b at)
+  node-cut u l c = sym (ap (λ (o : Option Refusal). nodeOr o (nodeHere b at)) (body-cut at (headerThere b at) (not (isUnused (nodeHere b at))) sized (bodyThere b at)
       (le-leb _ _ (h .there)) (used u) (eq-eqb _ _ (length-is l)) (lt-leb _ _ (rw (h .lenIs) at c))))
 
-  pub node-there : (code ≡ 0 → ⊥) → len ≡ bodyLength n (nodeOf code) → at + 4 + len ≤ length b → NodeAnswer.Node code len ≡ nodeFrame b at n
-  node-there u l c = (λ i. NodeAnswer.Node (code-here i) ((l ∙ ap (bodyLength n) node-is) i))
-      ∙ sym (ap (λ (o : Option Refusal). nodeOr o n (nodeHere b at)) (all-there at (headerThere b at) (not (isUnused (nodeHere b at))) sized (bodyThere b at)
+  pub node-there : (code ≡ 0 → ⊥) → len ≡ bodyLength n (nodeOf code) → at + 4 + len ≤ length b → NodeAnswer.Node code ≡ nodeFrame b at n
+  node-there u l c = ap NodeAnswer.Node code-here
+      ∙ sym (ap (λ (o : Option Refusal). nodeOr o (nodeHere b at)) (all-there at (headerThere b at) (not (isUnused (nodeHere b at))) sized (bodyThere b at)
       (record { header-there = le-leb _ _ (h .there); kind-due = used u; length-exact = eq-eqb _ _ (length-is l); body-there = le-leb _ _ (rw (h .lenIs) at c) })))
 
 pub node-short : (b : List ℕ) (at n : ℕ) → length b < at + 4 → NodeAnswer.Refused (refusal 1 at) ≡ nodeFrame b at n
-node-short b at n h = sym (ap (λ (o : Option Refusal). nodeOr o n (nodeHere b at)) (no-header at (headerThere b at) (not (isUnused (nodeHere b at)))
+node-short b at n h = sym (ap (λ (o : Option Refusal). nodeOr o (nodeHere b at)) (no-header at (headerThere b at) (not (isUnused (nodeHere b at)))
     (eqb (lengthAt b at) (bodyLength n (nodeHere b at))) (bodyThere b at) (lt-leb _ _ h)))
 
 -- ---- more checks after some

@@ -1,6 +1,5 @@
 pub mod Headers
 pub mod Frames
-pub mod Stretches
 pub mod Nodes
 pub mod Noting
 pub mod Turns

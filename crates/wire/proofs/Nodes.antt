@@ -8,20 +8,19 @@ use native.Mathlib.Omega.{arith}
 use borrow.Author.Tests.{le-leb, lt-leb, le-ltb, lt-ltb, leb-true, ltb-true, eqb-true}
 use lib.ListN.{length}
 use lib.Dec.{leb, ltb, eqb}
-use Rattle.scope.specs.declared.Question.{Question}
 use Rattle.scope.specs.declared.Refusal.{Refusal}
 use Rattle.scope.specs.Sizes.{variablesFit, numbersFit}
 use Rattle.scope.specs.Question.{Node, unused, atom, equation, atMost, nodeOf, codeOf, isUnused, isAtom}
-use Rattle.scope.specs.Refusals.{Check, check, refusal, unlessPassed, firstRefusal, Progress, stopped, ended, orStopped}
-use Rattle.scope.specs.Wire.{Reading, Ended, byteAt, numberAt, numbersAt, kindAt, lengthAt, headerThere, bodyThere, headKind, endKind, bodyLength}
+use Rattle.scope.specs.Refusals.{Check, check, refusal, unlessPassed, firstRefusal}
+use Rattle.scope.specs.Wire.{byteAt, numberAt, numbersAt, kindAt, lengthAt, headerThere, bodyThere, headKind, endKind, bodyLength}
 use Rattle.wire.specs.Steps.{frameChecks, frameOr, frameAnswer, headChecks, headOr, headAnswer, nodeHere, nodeFrameChecks, nodeSizeChecks, nodeOr, nodeFrame, nodeAnswer}
 use Rattle.wire.specs.declared.reading.FrameAnswer.{FrameAnswer}
 use Rattle.wire.specs.declared.reading.HeadAnswer.{HeadAnswer}
 use Rattle.wire.specs.declared.reading.NodeAnswer.{NodeAnswer}
 use Rattle.theory.specs.Records.{node-of-code}
 use Rattle.wire.proofs.Codes.{code-small}
-use Rattle.wire.proofs.Stretches.{partOf, part-number, part-numbers}
-use Rattle.wire.specs.Answers.{endChecks, endFrom}
+use Rattle.wire.specs.declared.PartsAnswer.{PartsAnswer}
+use Rattle.wire.specs.Answers.{endChecks, endOr, endAnswer}
 use Rattle.wire.proofs.Frames.{four, Framed, framed, none-before, some-before, none-both}
 
 -- ---- a frame's answer says what was refused
@@ -79,31 +78,28 @@ three at true true false body h = refl
 three at true false exact body h = refl
 three at false kind exact body h = refl
 
-module _ (b : List ℕ) (at : ℕ) (q : Question) where
+module _ (b : List ℕ) (at : ℕ) where
   never-cut : headerThere b at ≡ true → eqb (lengthAt b at) 0 ≡ true → bodyThere b at ≡ true
   never-cut h l = le-leb (at + 4 + lengthAt b at) (length b) (omega (arith, eqb-true (lengthAt b at) 0 l, leb-true (at + 4) (length b) h))
 
   end-checks : firstRefusal (endChecks b at) ≡ firstRefusal (frameChecks b at endKind 0)
   end-checks = three at (headerThere b at) (eqb (kindAt b at) endKind) (eqb (lengthAt b at) 0) (bodyThere b at) never-cut
 
-  abbrev closed : Option Refusal → Progress Reading Ended
-  closed o = orStopped o (ended (record { question = q; next = at + 4 }))
+  pub end-refused : (n : ℕ) (r : Refusal) → frameAnswer b at endKind 0 ≡ FrameAnswer.Refused r → PartsAnswer.Refused r ≡ endAnswer b at n
+  end-refused n r e = sym (ap (λ (o : Option Refusal). endOr o n (at + 4)) (end-checks ∙ frame-failed b at endKind 0 r e))
 
-  pub end-refused : (r : Refusal) → frameAnswer b at endKind 0 ≡ FrameAnswer.Refused r → stopped r ≡ endFrom b at q
-  end-refused r e = sym (ap closed (end-checks ∙ frame-failed b at endKind 0 r e))
-
-  pub end-there : frameAnswer b at endKind 0 ≡ FrameAnswer.There → ended (record { question = q; next = at + 4 }) ≡ endFrom b at q
-  end-there e = sym (ap closed (end-checks ∙ frame-passed b at endKind 0 e))
+  pub end-there : (n : ℕ) → frameAnswer b at endKind 0 ≡ FrameAnswer.There → PartsAnswer.Parts n (at + 4) ≡ endAnswer b at n
+  end-there n e = sym (ap (λ (o : Option Refusal). endOr o n (at + 4)) (end-checks ∙ frame-passed b at endKind 0 e))
 
 -- ---- a node
 
-pub node-none : (o : Option Refusal) (n : ℕ) (x : Node) (code len : ℕ) → nodeOr o n x ≡ NodeAnswer.Node code len → (o ≡ none) × ((code ≡ codeOf x) × (len ≡ bodyLength n x))
-node-none none n x code len e = (refl, (cc, cc))
-node-none (some r) n x code len e = let z : _≡_ {A = ℕ} 0 1 = cc in absurd (omega arith)
+pub node-none : (o : Option Refusal) (x : Node) (code : ℕ) → nodeOr o x ≡ NodeAnswer.Node code → (o ≡ none) × (code ≡ codeOf x)
+node-none none x code e = (refl, cc)
+node-none (some r) x code e = let z : _≡_ {A = ℕ} 0 1 = cc in absurd (omega arith)
 
-pub node-some : (o : Option Refusal) (n : ℕ) (x : Node) (r : Refusal) → nodeOr o n x ≡ NodeAnswer.Refused r → o ≡ some r
-node-some none n x r e = let z : _≡_ {A = ℕ} 0 1 = cc in absurd (omega arith)
-node-some (some s) n x r e = cc
+pub node-some : (o : Option Refusal) (x : Node) (r : Refusal) → nodeOr o x ≡ NodeAnswer.Refused r → o ≡ some r
+node-some none x r e = let z : _≡_ {A = ℕ} 0 1 = cc in absurd (omega arith)
+node-some (some s) x r e = cc
 
 -- the size of the formula, and the numbers
 abbrev sizes : ℕ → Bool → Bool → Bool → Bool → List Check
@@ -131,12 +127,10 @@ size-facts at true false shallow fit e = let z : _≡_ {A = ℕ} 0 1 = cc in abs
 size-facts at true true false fit e = let z : _≡_ {A = ℕ} 0 1 = cc in absurd (omega arith)
 
 -- a node whose frame is there
-pub record NodeKnown (b : List ℕ) (at n code len : ℕ) : Type 0 where
+pub record NodeKnown (b : List ℕ) (at n code : ℕ) : Type 0 where
   pub passed : firstRefusal (nodeFrameChecks b at n) ≡ none
-  pub codeIs : code ≡ codeOf (nodeHere b at)
-  pub lenIs : len ≡ bodyLength n (nodeHere b at)
   pub node : nodeOf code ≡ nodeHere b at
-  pub within : at + 4 + len ≤ length b
+  pub within : at + 4 + bodyLength n (nodeOf code) ≤ length b
   pub used : 1 ≤ code
   pub small : code ≤ 5
 
@@ -148,30 +142,28 @@ used-code Node.not e = omega arith
 used-code Node.and e = omega arith
 used-code Node.or e = omega arith
 
-by-frame : (b : List ℕ) (at n code len : ℕ) → (firstRefusal (nodeFrameChecks b at n) ≡ none) × ((code ≡ codeOf (nodeHere b at)) × (len ≡ bodyLength n (nodeHere b at)))
-    → NodeKnown b at n code len
-by-frame b at n code len h =
+by-frame : (b : List ℕ) (at n code : ℕ) → (firstRefusal (nodeFrameChecks b at n) ≡ none) × (code ≡ codeOf (nodeHere b at)) → NodeKnown b at n code
+by-frame b at n code h =
     let x = nodeHere b at in
+    let e : nodeOf code ≡ x = ap nodeOf (h .1) ∙ node-of-code x in
     let f = framed at (headerThere b at) (not (isUnused x)) (eqb (lengthAt b at) (bodyLength n x)) (bodyThere b at) (h .0) in
     record {
       passed = h .0;
-      codeIs = h .1 .0;
-      lenIs = h .1 .1;
-      node = ap nodeOf (h .1 .0) ∙ node-of-code x;
-      within = omega (arith, h .1 .1, eqb-true (lengthAt b at) (bodyLength n x) (f .length-exact), leb-true (at + 4 + lengthAt b at) (length b) (f .body-there));
-      used = rw (h .1 .0) (used-code x (f .kind-due));
-      small = rw (h .1 .0) (code-small x);
+      node = e;
+      within = omega (arith, ap (bodyLength n) e, eqb-true (lengthAt b at) (bodyLength n x) (f .length-exact), leb-true (at + 4 + lengthAt b at) (length b) (f .body-there));
+      used = rw (h .1) (used-code x (f .kind-due));
+      small = rw (h .1) (code-small x);
     }
 
-pub known : (b : List ℕ) (at n code len : ℕ) → nodeFrame b at n ≡ NodeAnswer.Node code len → NodeKnown b at n code len
-known b at n code len e = by-frame b at n code len (node-none (firstRefusal (nodeFrameChecks b at n)) n (nodeHere b at) code len e)
+pub known : (b : List ℕ) (at n code : ℕ) → nodeFrame b at n ≡ NodeAnswer.Node code → NodeKnown b at n code
+known b at n code e = by-frame b at n code (node-none (firstRefusal (nodeFrameChecks b at n)) (nodeHere b at) code e)
 
-pub atom-size : (b : List ℕ) (at n code len : ℕ) → NodeKnown b at n code len → isAtom (nodeOf code) ≡ true → len ≡ 4 * (n + 1)
-atom-size b at n code len k a = let i : isAtom (nodeHere b at) ≡ true = ap isAtom (sym (k .node)) ∙ a in k .lenIs ∙ rw i
+pub atom-within : (b : List ℕ) (at n code : ℕ) → NodeKnown b at n code → isAtom (nodeOf code) ≡ true → at + 4 + 4 * (n + 1) ≤ length b
+atom-within b at n code k a = rw a at (k .within)
 
 -- a node that passed every check
-pub record NodeTaken (b : List ℕ) (at n nodes atoms depth code len : ℕ) : Type 0 where
-  pub known : NodeKnown b at n code len
+pub record NodeTaken (b : List ℕ) (at n nodes atoms depth code : ℕ) : Type 0 where
+  pub known : NodeKnown b at n code
   pub passed : firstRefusal (nodeFrameChecks b at n ++ nodeSizeChecks b at n nodes atoms depth) ≡ none
   pub room : nodes < 64
   pub few : isAtom (nodeOf code) ≡ true → atoms < 8
@@ -181,14 +173,14 @@ pub few-atoms : (t : Bool) (atoms : ℕ) → (not t || ltb atoms 8) ≡ true →
 few-atoms true atoms e a = ltb-true atoms 8 e
 few-atoms false atoms e a = let z : _≡_ {A = ℕ} 0 1 = cc in absurd (omega arith)
 
-pub node-taken : (b : List ℕ) (at n nodes atoms depth code len : ℕ) → nodeAnswer b at n nodes atoms depth ≡ NodeAnswer.Node code len → NodeTaken b at n nodes atoms depth code len
-node-taken b at n nodes atoms depth code len e =
+pub node-taken : (b : List ℕ) (at n nodes atoms depth code : ℕ) → nodeAnswer b at n nodes atoms depth ≡ NodeAnswer.Node code → NodeTaken b at n nodes atoms depth code
+node-taken b at n nodes atoms depth code e =
     let x = nodeHere b at in
     let cs = nodeFrameChecks b at n in
     let ds = nodeSizeChecks b at n nodes atoms depth in
-    let h = node-none (firstRefusal (cs ++ ds)) n x code len e in
+    let h = node-none (firstRefusal (cs ++ ds)) x code e in
     let g = none-both cs ds (h .0) in
-    let k = by-frame b at n code len (g .0, h .1) in
+    let k = by-frame b at n code (g .0, h .1) in
     let f = size-facts at (ltb nodes 64) (not (isAtom x) || ltb atoms 8) (leb depth 16) _ (g .1) in
     record {
       known = k;
@@ -200,7 +192,7 @@ node-taken b at n nodes atoms depth code len e =
 
 pub node-refused : (b : List ℕ) (at n nodes atoms depth : ℕ) (r : Refusal) → nodeAnswer b at n nodes atoms depth ≡ NodeAnswer.Refused r
     → firstRefusal (nodeFrameChecks b at n ++ nodeSizeChecks b at n nodes atoms depth) ≡ some r
-node-refused b at n nodes atoms depth r e = node-some (firstRefusal (nodeFrameChecks b at n ++ nodeSizeChecks b at n nodes atoms depth)) n (nodeHere b at) r e
+node-refused b at n nodes atoms depth r e = node-some (firstRefusal (nodeFrameChecks b at n ++ nodeSizeChecks b at n nodes atoms depth)) (nodeHere b at) r e
 
 module _ (b : List ℕ) (at n nodes atoms depth : ℕ) where
   abbrev fit : Bool
@@ -210,14 +202,14 @@ module _ (b : List ℕ) (at n nodes atoms depth : ℕ) where
   few = not (isAtom (nodeHere b at)) || ltb atoms 8
 
   abbrev answer : Option Refusal → NodeAnswer
-  answer o = nodeOr o n (nodeHere b at)
+  answer o = nodeOr o (nodeHere b at)
 
   pub frame-kept : (r : Refusal) → nodeFrame b at n ≡ NodeAnswer.Refused r → nodeFrame b at n ≡ nodeAnswer b at n nodes atoms depth
   frame-kept r e =
-      let f = node-some (firstRefusal (nodeFrameChecks b at n)) n (nodeHere b at) r e in
+      let f = node-some (firstRefusal (nodeFrameChecks b at n)) (nodeHere b at) r e in
       e ∙ sym (ap answer (some-before (nodeFrameChecks b at n) (nodeSizeChecks b at n nodes atoms depth) r f))
 
-  module _ (code len : ℕ) (k : NodeKnown b at n code len) where
+  module _ (code : ℕ) (k : NodeKnown b at n code) where
     later : firstRefusal (nodeFrameChecks b at n ++ nodeSizeChecks b at n nodes atoms depth) ≡ firstRefusal (nodeSizeChecks b at n nodes atoms depth)
     later = none-before (nodeFrameChecks b at n) (nodeSizeChecks b at n nodes atoms depth) (k .passed)
 
@@ -246,17 +238,11 @@ module _ (b : List ℕ) (at n nodes atoms depth : ℕ) where
         atom-here : isAtom (nodeHere b at) ≡ true
         atom-here = ap isAtom (sym (k .node)) ∙ a
 
-        fit-is : (t : Bool) → numbersFit (numbersAt n (partOf b (at + 4) len) 0) (numberAt (partOf b (at + 4) len) (4 * n)) ≡ t → fit ≡ t
-        fit-is t f =
-            let l = atom-size b at n code len k a in
-            let p = part-numbers b (at + 4) len (k .within) n (omega arith) in
-            let q = part-number b (at + 4) len (k .within) (4 * n) (omega arith) in
-            rw (atom-here, sym p, sym q) f
+        fit-is : (t : Bool) → numbersFit (numbersAt n b (at + 4)) (numberAt b (at + 4 + 4 * n)) ≡ t → fit ≡ t
+        fit-is t f = rw atom-here f
 
-        pub node-atom : numbersFit (numbersAt n (partOf b (at + 4) len) 0) (numberAt (partOf b (at + 4) len) (4 * n)) ≡ true
-            → nodeFrame b at n ≡ nodeAnswer b at n nodes atoms depth
+        pub node-atom : numbersFit (numbersAt n b (at + 4)) (numberAt b (at + 4 + 4 * n)) ≡ true → nodeFrame b at n ≡ nodeAnswer b at n nodes atoms depth
         node-atom f = taken (fit-is true f)
 
-        pub node-beyond : numbersFit (numbersAt n (partOf b (at + 4) len) 0) (numberAt (partOf b (at + 4) len) (4 * n)) ≡ false
-            → NodeAnswer.Refused (refusal 4 at) ≡ nodeAnswer b at n nodes atoms depth
+        pub node-beyond : numbersFit (numbersAt n b (at + 4)) (numberAt b (at + 4 + 4 * n)) ≡ false → NodeAnswer.Refused (refusal 4 at) ≡ nodeAnswer b at n nodes atoms depth
         node-beyond f = sym (left false h e (fit-is false f))

@@ -17,11 +17,11 @@ use Rattle.scope.specs.Wire as wire
 use Rattle.scope.specs.Wire.{Reading, Ended, numberAt, numbersAt, bodyLength, noted, nodeRead, endRead, dueRead, recordRead}
 use Rattle.theory.specs.Checks.{onward-stopped}
 use Rattle.wire.specs.declared.reading.NodeAnswer.{NodeAnswer}
-use Rattle.wire.specs.Steps.{nodeHere, nodeAnswer, Full, notedBody}
-use Rattle.wire.specs.Answers.{endChecks, endFrom}
+use Rattle.wire.specs.Steps.{nodeHere, nodeAnswer, heldQuestion, Full, notedAt}
+use Rattle.wire.specs.declared.PartsAnswer.{PartsAnswer}
+use Rattle.wire.specs.Answers.{PartsSay, endChecks, endFrom, endOr, endAnswer}
 use Rattle.wire.specs.Formula.{Known, Sound, Grown, Unread, dueOf, shapeOf, depthOf, laterOf}
-use Rattle.wire.proofs.Stretches.{partOf, part-number, part-numbers}
-use Rattle.wire.proofs.Nodes.{NodeKnown, NodeTaken, node-taken, node-refused, atom-size}
+use Rattle.wire.proofs.Nodes.{NodeKnown, NodeTaken, node-taken, node-refused}
 
 abbrev pub readingOf : Question → Known → ℕ → Reading
 readingOf q s p = record { question = q; shape = shapeOf s; place = p }
@@ -47,24 +47,18 @@ module _ {A B : Type 0} (step : A → Progress A B) where
   onward-settled (suc f) none e = refl
   onward-settled (suc f) (some r) e = refl
 
--- ---- a node's question, from the bytes or from its body
+-- ---- a node's question: what is due has no part in it
 
-noted-same : (t : Bool) (x : Node) (cs ds : List ℤ) (k l : ℤ) (nodes atoms : ℕ) (due : List ℕ) (q : Question) → (t ≡ true → (cs ≡ ds) × (k ≡ l))
-    → noted t x cs k (record { nodes = nodes; atoms = atoms; due = due }) q ≡ noted t x ds l (record { nodes = nodes; atoms = atoms; due = [] }) q
+noted-same : (t : Bool) (x : Node) (cs : List ℤ) (k : ℤ) (nodes atoms : ℕ) (due : List ℕ) (q : Question)
+    → noted t x cs k (record { nodes = nodes; atoms = atoms; due = due }) q ≡ noted t x cs k (record { nodes = nodes; atoms = atoms; due = [] }) q
 unfolding noted
-noted-same true x cs ds k l nodes atoms due q h = rw (h refl .0, h refl .1)
-noted-same false x cs ds k l nodes atoms due q h = refl
+noted-same true x cs k nodes atoms due q = refl
+noted-same false x cs k nodes atoms due q = refl
 
-module _ (b : List ℕ) (q : Question) (nodes atoms : ℕ) (due : List ℕ) (p code len : ℕ) (k : NodeKnown b p (q .n) code len) where
-  at-body : isAtom (nodeOf code) ≡ true
-      → (numbersAt (q .n) b (p + 4) ≡ numbersAt (q .n) (partOf b (p + 4) len) 0) × (numberAt b (p + 4 + 4 * q .n) ≡ numberAt (partOf b (p + 4) len) (4 * q .n))
-  at-body a =
-      let l = atom-size b p (q .n) code len k a in
-      (sym (part-numbers b (p + 4) len (k .within) (q .n) (omega arith)), sym (part-number b (p + 4) len (k .within) (4 * q .n) (omega arith)))
-
-  noted-here : noted (isAtom (nodeHere b p)) (nodeHere b p) (numbersAt (q .n) b (p + 4)) (numberAt b (p + 4 + 4 * q .n)) (record { nodes = nodes; atoms = atoms; due = due }) q
-      ≡ notedBody q code nodes atoms (partOf b (p + 4) len)
-  noted-here = rw (sym (k .node)) (noted-same (isAtom (nodeOf code)) (nodeOf code) _ _ _ _ nodes atoms due q at-body)
+noted-here : (b : List ℕ) (q : Question) (nodes atoms : ℕ) (due : List ℕ) (p code : ℕ) → NodeKnown b p (q .n) code
+    → noted (isAtom (nodeHere b p)) (nodeHere b p) (numbersAt (q .n) b (p + 4)) (numberAt b (p + 4 + 4 * q .n)) (record { nodes = nodes; atoms = atoms; due = due }) q
+    ≡ notedAt q code nodes atoms b (p + 4)
+noted-here b q nodes atoms due p code k = rw (sym (k .node)) (noted-same (isAtom (nodeOf code)) (nodeOf code) _ _ nodes atoms due q)
 
 pub grown-nodes : (s : Known) (code : ℕ) (r : Known) → Grown s code r → r .nodes ≡ s .nodes + 1
 unfolding wire.grown
@@ -75,8 +69,8 @@ unfolding noted
 noted-by true x cs k w q = refl
 noted-by false x cs k w q = refl
 
-noted-n : (q : Question) (code nodes atoms : ℕ) (body : List ℕ) → notedBody q code nodes atoms body .n ≡ q .n
-noted-n q code nodes atoms body = noted-by (isAtom (nodeOf code)) (nodeOf code) (numbersAt (q .n) body 0) (numberAt body (4 * q .n)) _ q
+noted-n : (q : Question) (code nodes atoms : ℕ) (b : List ℕ) (start : ℕ) → notedAt q code nodes atoms b start .n ≡ q .n
+noted-n q code nodes atoms b start = noted-by (isAtom (nodeOf code)) (nodeOf code) (numbersAt (q .n) b start) (numberAt b (start + 4 * q .n)) _ q
 
 -- ---- a turn
 
@@ -98,19 +92,19 @@ module _ (b : List ℕ) (q : Question) (s : Known) (p : ℕ) (h : Sound s) where
     turn-refused r e = ap (λ (l : List ℕ). dueRead b l (readingOf q s p)) (due-first s h t)
         ∙ ap (λ (o : Option Refusal). orStopped o after) (node-refused b p (q .n) (s .nodes) (s .atoms) (depthOf s) r e)
 
-    turn-taken : (code len : ℕ) → NodeTaken b p (q .n) (s .nodes) (s .atoms) (depthOf s) code len
+    turn-taken : (code : ℕ) → NodeTaken b p (q .n) (s .nodes) (s .atoms) (depthOf s) code
         → recordRead b (readingOf q s p) ≡ going (record {
-          question = notedBody q code (s .nodes) (s .atoms) (partOf b (p + 4) len);
+          question = notedAt q code (s .nodes) (s .atoms) b (p + 4);
           shape = wire.grown (nodeOf code) (depthOf s) (laterOf s) (shapeOf s);
-          place = p + 4 + len;
+          place = p + 4 + bodyLength (q .n) (nodeOf code);
         })
     unfolding recordRead nodeRead
-    turn-taken code len k = ap (λ (l : List ℕ). dueRead b l (readingOf q s p)) (due-first s h t)
+    turn-taken code k = ap (λ (l : List ℕ). dueRead b l (readingOf q s p)) (due-first s h t)
         ∙ ap (λ (o : Option Refusal). orStopped o after) (k .passed)
         ∙ (λ i. going (record {
-          question = noted-here b q (s .nodes) (s .atoms) (dueOf s) p code len (k .known) i;
+          question = noted-here b q (s .nodes) (s .atoms) (dueOf s) p code (k .known) i;
           shape = wire.grown (sym (k .known .node) i) (depthOf s) (laterOf s) (shapeOf s);
-          place = p + 4 + sym (k .known .lenIs) i;
+          place = p + 4 + bodyLength (q .n) (sym (k .known .node) i);
         }))
 
 -- ---- what is still to be read
@@ -139,22 +133,23 @@ module _ {b : List ℕ} {n : ℕ} {q₀ : Question} {s₀ : Known} {p₀ : ℕ} 
         ∙ ap (onward (64 - s .nodes) (recordRead b)) (turn-refused b q s p (left .sound) t r (rw (left .variables) e))
         ∙ onward-stopped (64 - s .nodes) (recordRead b) r
 
-    module _ (code len : ℕ) (e : nodeAnswer b p n (s .nodes) (s .atoms) (depthOf s) ≡ NodeAnswer.Node code len) where
-      pub left-taken : NodeTaken b p (q .n) (s .nodes) (s .atoms) (depthOf s) code len
-      left-taken = node-taken b p (q .n) (s .nodes) (s .atoms) (depthOf s) code len (rw (left .variables) e)
+    module _ (code : ℕ) (e : nodeAnswer b p n (s .nodes) (s .atoms) (depthOf s) ≡ NodeAnswer.Node code) where
+      pub left-taken : NodeTaken b p (q .n) (s .nodes) (s .atoms) (depthOf s) code
+      left-taken = node-taken b p (q .n) (s .nodes) (s .atoms) (depthOf s) code (rw (left .variables) e)
 
-      pub left-again : (q′ : Question) (s′ : Known) → q′ ≡ notedBody q code (s .nodes) (s .atoms) (partOf b (p + 4) len) → Full q′ → Grown s code s′
+      pub left-again : (len : ℕ) → len ≡ bodyLength n (nodeOf code) → (q′ : Question) (s′ : Known) → q′ ≡ notedAt q code (s .nodes) (s .atoms) b (p + 4) → Full q′ → Grown s code s′
           → Left b n q₀ s₀ p₀ q′ s′ (p + 4 + len)
-      left-again q′ s′ f l g =
+      left-again len z q′ s′ f l g =
           let k = left-taken in
           let m : s′ .nodes ≡ s .nodes + 1 = grown-nodes s code s′ g in
           let d : 65 - s′ .nodes ≡ 64 - s .nodes = omega arith in
+          let y : len ≡ bodyLength (q .n) (nodeOf code) = z ∙ ap (λ (i : ℕ). bodyLength i (nodeOf code)) (sym (left .variables)) in
           record {
             sound = g .sound;
-            within = k .known .within;
-            variables = ap (λ (x : Question). x .n) f ∙ noted-n q code (s .nodes) (s .atoms) (partOf b (p + 4) len) ∙ left .variables;
+            within = omega (arith, y, k .known .within);
+            variables = ap (λ (x : Question). x .n) f ∙ noted-n q code (s .nodes) (s .atoms) b (p + 4) ∙ left .variables;
             full = l;
-            rest = rw d (ap (onward (64 - s .nodes) (recordRead b)) ((λ i. going (record { question = f i; shape = g .shape i; place = p + 4 + len })) ∙ sym (turn-taken b q s p (left .sound) t code len k))
+            rest = rw d (ap (onward (64 - s .nodes) (recordRead b)) ((λ i. going (record { question = f i; shape = g .shape i; place = p + 4 + y i })) ∙ sym (turn-taken b q s p (left .sound) t code k))
                 ∙ sym first);
           }
 
@@ -162,3 +157,13 @@ pub left-start : (b : List ℕ) (n : ℕ) (q : Question) (s : Known) (p : ℕ) �
 left-start b n q s p u h e l =
     let m : s .nodes ≡ 0 = ap (λ (w : wire.Shape). w .nodes) (u .shape) in
     record { sound = u .sound; within = h; variables = e; full = l; rest = rw m }
+
+-- ---- the end, into lent parts
+
+pub end-says : (p : Progress Reading Ended) (b : List ℕ) (at n : ℕ) (codes : List ℕ) (coefficients constants : List ℤ) (r : PartsAnswer) → r ≡ endAnswer b at n
+    → p ≡ endFrom b at (heldQuestion n codes coefficients constants) → PartsSay p r codes coefficients constants
+end-says p b at n codes coefficients constants r e f = rw (e, f) (by (firstRefusal (endChecks b at)))
+  where
+    by : (o : Option Refusal) → PartsSay (orStopped o (ended (record { question = heldQuestion n codes coefficients constants; next = at + 4 }))) (endOr o n (at + 4)) codes coefficients constants
+    by none = refl
+    by (some r) = refl

@@ -11,11 +11,10 @@ use Rattle.scope.specs.declared.Refusal.{Refusal}
 use Rattle.scope.specs.Question.{Node, nodeOf, isAtom}
 use Rattle.scope.specs.Refusals.{Progress, stopped, going, ended, orStopped, onward}
 use Rattle.scope.specs.Wire as wire
+use Rattle.scope.specs.Wire.{bodyLength}
 use Rattle.scope.specs.Writing.{nodeBytes, Walk, nodeWritten, dueWritten, partWritten}
 use Rattle.wire.specs.declared.reading.NodeAnswer.{NodeAnswer}
-use Rattle.wire.specs.declared.writing.FormulaAnswer.{FormulaAnswer}
-use Rattle.wire.specs.Steps.{heldQuestion}
-use Rattle.wire.specs.Writes.{codeNode, atomsTo, bytesTo, codeAnswer, FormulaIs, FormulaSays, walkAt}
+use Rattle.wire.specs.Writes.{codeNode, atomsTo, bytesTo, codeAnswer, FormulaIs, walkAt}
 use Rattle.wire.specs.Formula.{Known, Sound, Grown, Unread, shapeOf, depthOf, laterOf}
 use Rattle.wire.proofs.Turns.{due-first, due-none, onward-first, grown-nodes}
 use Rattle.theory.specs.Checks.{onward-stopped, onward-ended}
@@ -44,9 +43,9 @@ module _ (q : Question) (s : Known) (h : Sound s) where
     turn-refused r e = ap (λ (l : List ℕ). dueWritten q l (walkOf q s)) (due-first s h t)
         ∙ ap (λ (o : Option Refusal). orStopped o after) (code-refused q (s .nodes) (s .atoms) (depthOf s) r e)
 
-    turn-taken : (code len : ℕ) → CodeTaken q (s .nodes) (s .atoms) (depthOf s) code len → partWritten q (walkOf q s) ≡ after
+    turn-taken : (code : ℕ) → CodeTaken q (s .nodes) (s .atoms) (depthOf s) code → partWritten q (walkOf q s) ≡ after
     unfolding partWritten nodeWritten
-    turn-taken code len k = ap (λ (l : List ℕ). dueWritten q l (walkOf q s)) (due-first s h t)
+    turn-taken code k = ap (λ (l : List ℕ). dueWritten q l (walkOf q s)) (due-first s h t)
         ∙ ap (λ (o : Option Refusal). orStopped o after) (k .passed)
 
 -- ---- what is still to be walked
@@ -105,28 +104,25 @@ module _ {q : Question} {s : Known} {len : ℕ} (w : Walking q s len) where
     pub walking-refused : (r : Refusal) → codeAnswer q (s .nodes) (s .atoms) (depthOf s) ≡ NodeAnswer.Refused r → whole ≡ stopped r
     walking-refused r e = first ∙ ap (onward (64 - s .nodes) (partWritten q)) (turn-refused q s (w .sound) t r e) ∙ onward-stopped (64 - s .nodes) (partWritten q) r
 
-    pub walking-again : length (q .coefficients) ≡ 48 → q .n ≤ 6 → (code size : ℕ) → codeAnswer q (s .nodes) (s .atoms) (depthOf s) ≡ NodeAnswer.Node code size
+    pub walking-again : length (q .coefficients) ≡ 48 → q .n ≤ 6 → (code size : ℕ) → codeAnswer q (s .nodes) (s .atoms) (depthOf s) ≡ NodeAnswer.Node code → size ≡ bodyLength (q .n) (nodeOf code)
         → (r : Known) → Grown s code r → Walking q r (len + 4 + size)
-    walking-again full few code size e r g =
-        let k = code-taken q (s .nodes) (s .atoms) (depthOf s) code size e in
+    walking-again full few code size e z r g =
+        let k = code-taken q (s .nodes) (s .atoms) (depthOf s) code e in
         let x = codeNode q (s .nodes) in
+        let i : size ≡ bodyLength (q .n) x = z ∙ ap (bodyLength (q .n)) (k .node) in
         let m : r .nodes ≡ s .nodes + 1 = grown-nodes s code r g in
         let d : 65 - r .nodes ≡ 64 - s .nodes = omega (arith, k .room) in
         let a : r .atoms ≡ s .atoms + cond (isAtom x) 1 0 = grown-atoms s code r g ∙ ap (λ (y : Node). s .atoms + cond (isAtom y) 1 0) (k .node) in
         let y : bytesTo q (r .nodes) ≡ bytesTo q (s .nodes) ++ nodeBytes q x (s .atoms) =
         ap (bytesTo q) m ∙ bytes-next q (s .nodes) ∙ ap (λ (i : ℕ). bytesTo q (s .nodes) ++ nodeBytes q x i) (sym (w .atomsIs)) in
-        let l : length (nodeBytes q x (s .atoms)) ≡ 4 + size = node-length q full few x (s .atoms) (k .few) ∙ ap (λ (i : ℕ). 4 + i) (sym (k .lenIs)) in
+        let l : length (nodeBytes q x (s .atoms)) ≡ 4 + size = node-length q full few x (s .atoms) (k .few) ∙ ap (λ (j : ℕ). 4 + j) (sym i) in
         record {
           sound = g .sound;
           few = rw a (atoms-few (isAtom x) (s .atoms) (k .few) (w .few));
           atomsIs = a ∙ ap (λ (i : ℕ). i + cond (isAtom x) 1 0) (w .atomsIs) ∙ sym (ap (atomsTo q) m ∙ atoms-next q (s .nodes));
           lenIs = sym (ap length y ∙ length-append (bytesTo q (s .nodes)) (nodeBytes q x (s .atoms)) ∙ omega (arith, l, w .lenIs));
-          short = omega (arith, w .short, k .lenIs, body-small (q .n) x few);
+          short = omega (arith, w .short, i, body-small (q .n) x few);
           rest = rw d (ap (onward (64 - s .nodes) (partWritten q))
-              ((λ i. going (record { shape = (g .shape ∙ ap (λ (z : Node). wire.grown z (depthOf s) (laterOf s) (shapeOf s)) (k .node)) i; bytes = y i })) ∙ sym (turn-taken q s (w .sound) t code size k))
+              ((λ i. going (record { shape = (g .shape ∙ ap (λ (z : Node). wire.grown z (depthOf s) (laterOf s) (shapeOf s)) (k .node)) i; bytes = y i })) ∙ sym (turn-taken q s (w .sound) t code k))
               ∙ sym first);
         }
-
--- what is said of the question that is held by its parts
-pub says-held : (q : Question) (n : ℕ) (r : FormulaAnswer) → n ≡ q .n → FormulaSays (heldQuestion n (q .codes) (q .coefficients) (q .constants)) r → FormulaSays q r
-says-held q n r e h = rw e at h

@@ -17,10 +17,9 @@ use Rattle.scope.specs.Question.{emptyQuestion}
 use Rattle.scope.specs.Refusals.{check, refusal, firstRefusal, Progress, stopped, going, ended, orStopped, onward}
 use Rattle.scope.specs.Wire as wire
 use Rattle.scope.specs.Wire.{Reading, Ended, byteAt, kindAt, lengthAt, headerThere, bodyThere, headKind, headRead, recordRead, readFrom, wholeRead, heldOf, readHeld}
-use Rattle.wire.specs.declared.ReadPart.{ReadPart}
 use Rattle.wire.specs.declared.reading.HeadAnswer.{HeadAnswer}
 use Rattle.wire.specs.Steps.{frameChecks, headChecks, headOr, headAnswer}
-use Rattle.wire.specs.Answers.{partRead, headed, formulaRead}
+use Rattle.wire.specs.Answers.{headed, formulaRead}
 use Rattle.wire.proofs.Frames.{framed, none-both}
 use Rattle.theory.specs.Checks.{onward-stopped}
 
@@ -81,35 +80,15 @@ abbrev held : ReadAnswer → Question → Held
 held answer question = record { answer = answer; question = question }
 
 module _ (b : List ℕ) where
-  left : (p : Progress Reading Ended) → partRead p .answer ≡ ReadAnswer.Accepted → partRead p .next < length b
-      → held (ReadAnswer.Refused (refusal 6 (partRead p .next))) emptyQuestion ≡ heldOf (wholeRead b p)
-  unfolding wholeRead firstRefusal
-  left (stopped r) a h = let z : _≡_ {A = ℕ} 0 1 = cc in absurd (omega arith)
-  left (going s) a h = let z : _≡_ {A = ℕ} 0 1 = cc in absurd (omega arith)
-  left (ended e) a h = rw (lt-leb (length b) (e .next) h)
+  pub not-read : (r : Refusal) → readFrom b 0 ≡ stopped r → readHeld b ≡ held (ReadAnswer.Refused r) emptyQuestion
+  unfolding readHeld wholeRead
+  not-read r e = ap (λ (p : Progress Reading Ended). heldOf (wholeRead b p)) e
 
-  whole : (p : Progress Reading Ended) → partRead p .answer ≡ ReadAnswer.Accepted → length b ≤ partRead p .next
-      → held (partRead p .answer) (partRead p .question) ≡ heldOf (wholeRead b p)
-  unfolding wholeRead firstRefusal
-  whole (stopped r) a h = let z : _≡_ {A = ℕ} 0 1 = cc in absurd (omega arith)
-  whole (going s) a h = let z : _≡_ {A = ℕ} 0 1 = cc in absurd (omega arith)
-  whole (ended e) a h = rw (le-leb (length b) (e .next) h)
+  module _ (e : Ended) (p : readFrom b 0 ≡ ended e) where
+    pub left-over : e .next < length b → readHeld b ≡ held (ReadAnswer.Refused (refusal 6 (e .next))) emptyQuestion
+    unfolding readHeld wholeRead firstRefusal
+    left-over h = ap (λ (q : Progress Reading Ended). heldOf (wholeRead b q)) p ∙ rw (lt-leb (length b) (e .next) h)
 
-  not-read : (p : Progress Reading Ended) (r : Refusal) → partRead p .answer ≡ ReadAnswer.Refused r → held (partRead p .answer) (partRead p .question) ≡ heldOf (wholeRead b p)
-  unfolding wholeRead
-  not-read (stopped r) s a = refl
-  not-read (going s) r a = refl
-  not-read (ended e) r a = let z : _≡_ {A = ℕ} 0 1 = cc in absurd (omega arith)
-
-  module _ (part : ReadPart) (e : part ≡ partRead (readFrom b 0)) where
-    pub held-left : (q : Question) → q ≡ emptyQuestion → part .answer ≡ ReadAnswer.Accepted → part .next < length b → held (ReadAnswer.Refused (refusal 6 (part .next))) q ≡ readHeld b
-    unfolding readHeld
-    held-left q f a h = rw (f, e) (left (readFrom b 0) (rw e at a) (rw e at h))
-
-    pub held-whole : part .answer ≡ ReadAnswer.Accepted → length b ≤ part .next → held (part .answer) (part .question) ≡ readHeld b
-    unfolding readHeld
-    held-whole a h = rw e (whole (readFrom b 0) (rw e at a) (rw e at h))
-
-    pub held-refused : (r : Refusal) → part .answer ≡ ReadAnswer.Refused r → held (part .answer) (part .question) ≡ readHeld b
-    unfolding readHeld
-    held-refused r a = rw e (not-read (readFrom b 0) r (rw e at a))
+    pub all-read : length b ≤ e .next → readHeld b ≡ held ReadAnswer.Accepted (e .question)
+    unfolding readHeld wholeRead firstRefusal
+    all-read h = ap (λ (q : Progress Reading Ended). heldOf (wholeRead b q)) p ∙ rw (le-leb (length b) (e .next) h)

@@ -4,14 +4,16 @@ use mathlib.Core.Path.{_≡_}
 use mathlib.Core.Bool.{Bool, true, false, not, cond, _||_}
 use mathlib.Core.Option.{Option, none, some}
 use mathlib.Core.List.{List, [], _∷_, _++_}
-use lib.ListN.{length, take, drop}
+use lib.ListN.{length, take, drop, set}
+use lib.Seq.{sets}
 use lib.Dec.{leb, ltb, eqb}
 use lib.IntN.{ℤ}
 use denote.Ref.{RefT, ptr, now}
 use borrow.Author.Tests.{le-leb}
 use Rattle.scope.specs.declared.Question.{Question}
 use Rattle.scope.specs.declared.Refusal.{Refusal}
-use Rattle.scope.specs.Sizes.{mostNodes, mostAtoms, mostDepth, variablesFit, numbersFit}
+use Rattle.scope.specs.Whole.{all}
+use Rattle.scope.specs.Sizes.{mostNodes, mostAtoms, mostDepth, variablesFit, coefficientFits, numbersFit}
 use Rattle.scope.specs.Question.{Node, nodeOf, codeOf, isUnused, isAtom}
 use Rattle.scope.specs.Refusals.{Check, check, firstRefusal}
 use Rattle.scope.specs.Wire.{byteAt, numberAt, numbersAt, kindAt, lengthAt, headerThere, bodyThere, headKind, nodeOfKind, bodyLength, noted}
@@ -96,19 +98,18 @@ nodeSizeChecks b at n nodes atoms depth =
     check 4 at (not (isAtom (nodeHere b at)) || numbersFit (numbersAt n b (at + 4)) (numberAt b (at + 4 + 4 * n))) ∷
     []
 
-abbrev pub nodeOr : Option Refusal → ℕ → Node → NodeAnswer
-nodeOr none n x = NodeAnswer.Node (codeOf x) (bodyLength n x)
-nodeOr (some r) n x = NodeAnswer.Refused r
+abbrev pub nodeOr : Option Refusal → Node → NodeAnswer
+nodeOr none x = NodeAnswer.Node (codeOf x)
+nodeOr (some r) x = NodeAnswer.Refused r
 
 abbrev pub nodeFrame : List ℕ → ℕ → ℕ → NodeAnswer
-nodeFrame b at n = nodeOr (firstRefusal (nodeFrameChecks b at n)) n (nodeHere b at)
+nodeFrame b at n = nodeOr (firstRefusal (nodeFrameChecks b at n)) (nodeHere b at)
 
 abbrev pub nodeAnswer : List ℕ → ℕ → ℕ → ℕ → ℕ → ℕ → NodeAnswer
-nodeAnswer b at n nodes atoms depth = nodeOr (firstRefusal (nodeFrameChecks b at n ++ nodeSizeChecks b at n nodes atoms depth)) n (nodeHere b at)
+nodeAnswer b at n nodes atoms depth = nodeOr (firstRefusal (nodeFrameChecks b at n ++ nodeSizeChecks b at n nodes atoms depth)) (nodeHere b at)
 
--- ---- a node noted
+-- ---- the question that is held by its parts
 
--- the question that is held by its parts
 abbrev pub heldQuestion : ℕ → List ℕ → List ℤ → List ℤ → Question
 heldQuestion n codes coefficients constants = record { n = n; codes = codes; coefficients = coefficients; constants = constants }
 
@@ -117,14 +118,30 @@ pub record Full (q : Question) : Type 0 where
   pub coefficients : length (q .coefficients) ≡ 48
   pub constants : length (q .constants) ≡ 8
 
-pub record Notable (q : Question) (code nodes atoms : ℕ) (body : List ℕ) : Type 0 where
-  pub full : Full q
-  pub known : code ≤ 5
-  pub room : nodes < 64
-  pub few : isAtom (nodeOf code) ≡ true → atoms < 8
-  pub variables : q .n ≤ 6
-  pub numbers : isAtom (nodeOf code) ≡ true → length body ≡ 4 * (q .n + 1)
+-- ---- an atom's numbers
 
-abbrev pub notedBody : Question → ℕ → ℕ → ℕ → List ℕ → Question
-notedBody q code nodes atoms body =
-    noted (isAtom (nodeOf code)) (nodeOf code) (numbersAt (q .n) body 0) (numberAt body (4 * q .n)) (record { nodes = nodes; atoms = atoms; due = [] }) q
+pub record AtomHeld (n : ℕ) (coefficients constants : List ℤ) (atom : ℕ) : Type 0 where
+  pub variables : n ≤ 6
+  pub few : atom < 8
+  pub coefficients-full : length coefficients ≡ 48
+  pub constants-full : length constants ≡ 8
+
+pub record RowTaken (numbers : List ℤ) (cell : ℕ) (before : List ℤ) (r : Bool) (after : List ℤ) : Type 0 where
+  pub fits : r ≡ all coefficientFits numbers
+  pub put : r ≡ true → after ≡ sets before cell numbers
+
+pub record AtomTaken (row : List ℤ) (constant : ℤ) (atom : ℕ) (coefficients₀ constants₀ : List ℤ) (r : Bool) (coefficients₁ constants₁ : List ℤ) : Type 0 where
+  pub fits : r ≡ numbersFit row constant
+  pub coefficients : r ≡ true → coefficients₁ ≡ sets coefficients₀ (6 * atom) row
+  pub constants : constants₁ ≡ set constants₀ atom constant
+
+-- ---- a node read and noted
+
+-- its numbers, where it is an atom, stand from a byte on
+abbrev pub notedAt : Question → ℕ → ℕ → ℕ → List ℕ → ℕ → Question
+notedAt q code nodes atoms b start =
+    noted (isAtom (nodeOf code)) (nodeOf code) (numbersAt (q .n) b start) (numberAt b (start + 4 * q .n)) (record { nodes = nodes; atoms = atoms; due = [] }) q
+
+pub record NodeRead (b : List ℕ) (at depth nodes atoms : ℕ) (before : Question) (r : NodeAnswer) (after : Question) : Type 0 where
+  pub answer : r ≡ nodeAnswer b at (before .n) nodes atoms depth
+  pub noted : (code : ℕ) → r ≡ NodeAnswer.Node code → after ≡ notedAt before code nodes atoms b (at + 4)

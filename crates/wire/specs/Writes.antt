@@ -17,7 +17,7 @@ use Rattle.scope.specs.Wire.{bodyLength, unread, headKind, endKind}
 use Rattle.scope.specs.Writing.{recordBytes, nodeBytes, Walk, partWritten, codeChecks, coefficientUsed, written, wrote}
 use Rattle.wire.specs.declared.reading.NodeAnswer.{NodeAnswer}
 use Rattle.wire.specs.declared.writing.FormulaAnswer.{FormulaAnswer}
-use Rattle.wire.specs.Steps.{nodeOr, heldQuestion}
+use Rattle.wire.specs.Steps.{nodeOr, heldQuestion, Full}
 
 -- ---- a call's outcome
 
@@ -50,7 +50,7 @@ codeCheckList q nodes atoms depth =
     []
 
 abbrev pub codeAnswer : Question → ℕ → ℕ → ℕ → NodeAnswer
-codeAnswer q nodes atoms depth = nodeOr (firstRefusal (codeCheckList q nodes atoms depth)) (q .n) (codeNode q nodes)
+codeAnswer q nodes atoms depth = nodeOr (firstRefusal (codeCheckList q nodes atoms depth)) (codeNode q nodes)
 
 -- ---- the formula, and what is left over
 
@@ -83,23 +83,20 @@ abbrev pub CodeLeft : List ℕ → ℕ → ℕ → Type 0
 CodeLeft codes i r =
     (later : List Check) → firstRefusal (codeChecks (64 - i) codes i later) ≡ cond (ltb r 64) (some (refusal 6 r)) (firstRefusal later)
 
+abbrev pub isZero : ℤ → Bool
+isZero z = eqZ z (pos 0)
+
 abbrev pub coefficientClear : ℕ → ℕ → ℕ → ℤ → Bool
-coefficientClear n atoms c z = coefficientUsed n atoms c || eqZ z (pos 0)
+coefficientClear n atoms c z = coefficientUsed n atoms c || isZero z
 
 abbrev pub constantClear : ℕ → ℕ → ℤ → Bool
-constantClear atoms i z = ltb i atoms || eqZ z (pos 0)
+constantClear atoms i z = ltb i atoms || isZero z
 
 -- ---- a question's numbers
 
 -- the question by its numbers alone: what is said of it looks at no code
 abbrev pub numbered : ℕ → List ℤ → List ℤ → Question
 numbered n coefficients constants = heldQuestion n [] coefficients constants
-
-pub record AtomHeld (n : ℕ) (coefficients constants : List ℤ) (atom : ℕ) : Type 0 where
-  pub variables : n ≤ 6
-  pub few : atom < 8
-  pub coefficients-full : length coefficients ≡ 48
-  pub constants-full : length constants ≡ 8
 
 -- ---- room in a buffer
 
@@ -111,6 +108,7 @@ pub record NodeRoom (q : Question) (code atom : ℕ) (buffer : List ℕ) (at : �
   pub room : at + 4 + bodyLength (q .n) (nodeOf code) ≤ length buffer
 
 pub record QuestionRoom (q : Question) (nodes : ℕ) (buffer : List ℕ) : Type 0 where
+  pub full : Full q
   pub variables : q .n ≤ 6
   pub few-nodes : nodes ≤ 64
   pub few-atoms : atomsTo q nodes ≤ 8

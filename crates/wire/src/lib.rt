@@ -2,10 +2,9 @@
 ghost use mathlib.Core.Path.{_≡_};
 ghost use Prim.Native.Nat.{_≤_};
 ghost use lib.ListN.{length};
-ghost use Rattle.scope.specs.Refusals.{stopped};
 ghost use Rattle.scope.specs.Wire.{recordAt, readFrom, readHeld};
-ghost use Rattle.wire.specs.Answers.{partRead, formulaRead, endFrom};
-ghost use Rattle.wire.specs.Steps.{BodyOf};
+ghost use Rattle.wire.specs.Answers.{partRead, Blank, PartsSay, HeldSays, formulaRead, endAnswer};
+ghost use Rattle.wire.specs.Steps.{BodyOf, heldQuestion, Full};
 ghost use Rattle.wire.specs.Writes.{Writes};
 
 mod numbers;
@@ -19,10 +18,10 @@ use putting::put_question;
 use reading::FrameAnswer;
 use reading::HeadAnswer;
 use reading::NodeAnswer;
+use reading::body_length;
 use reading::frame_at;
 use reading::head_at;
 use reading::node_at;
-use reading::note;
 use records::HeaderAnswer;
 use records::count_of;
 use records::header_at;
@@ -85,115 +84,172 @@ pub struct ReadPart {
     pub next: usize,
 }
 
-fn refused_part(refusal: Refusal) -> ReadPart
-    ensures { λ r. ⌜ r ≡ partRead (stopped refusal) ⌝ }
-{
-    let next = refusal.place;
-    let question = Question::empty();
-    let answer = ReadAnswer::Refused(refusal);
-    ReadPart {
-        answer,
-        question,
-        next,
-    }
+// What reading into lent parts gives: n, and the place after the end record. A question handed on by value would be copied each time.
+pub enum PartsAnswer {
+    Parts { n: u8, next: usize },
+    Refused(Refusal),
 }
 
-fn end_from(bytes: &[u8], at: usize, question: Question) -> ReadPart
-    ensures { λ r. ⌜ r ≡ partRead (endFrom (now (bytes .entry)) at question) ⌝ }
+fn end_from(bytes: &[u8], at: usize, n: u8) -> PartsAnswer
+    ensures { λ r. ⌜ r ≡ endAnswer (now (bytes .entry)) at n ⌝ }
 {
     match frame_at(bytes, at, 0x00FF, 0) {
-        FrameAnswer::Refused(refusal) => refused_part(refusal),
-        FrameAnswer::There => {
-            let answer = ReadAnswer::Accepted;
-            ReadPart {
-                answer,
-                question,
-                next: at + 4,
-            }
-        }
+        FrameAnswer::Refused(refusal) => PartsAnswer::Refused(refusal),
+        FrameAnswer::There => PartsAnswer::Parts { n, next: at + 4 },
     }
 }
 
-// The question's parts and the parts still due are locals, lent for each node: a question by value would be copied for each.
-fn formula_from(bytes: &[u8], at: usize, n: u8) -> ReadPart
-    requires { ⌜ (n ≤ 6) × (at ≤ length (now bytes)) ⌝ }
-    ensures { λ r. ⌜ r ≡ partRead (formulaRead (now (bytes .entry)) n at) ⌝ }
+// The formula into the parts of the empty question, and the end.
+fn formula_from(
+    bytes: &[u8],
+    at: usize,
+    n: u8,
+    codes: &mut [u8],
+    coefficients: &mut [i32],
+    constants: &mut [i32],
+) -> PartsAnswer
+    requires { ⌜ (n ≤ 6) × ((at ≤ length (now bytes)) × Blank (now codes) (now coefficients) (now constants)) ⌝ }
+    ensures { λ r. ⌜ PartsSay (formulaRead (now (bytes .entry)) n at) r (now (codes .exit)) (now (coefficients .exit)) (now (constants .exit)) ⌝ }
 {
     let count = count_of(n);
-    let mut codes = [0u8; Question::NODES];
-    let mut coefficients = [0i32; Question::COEFFICIENTS];
-    let mut constants = [0i32; Question::ATOMS];
     let mut due = [1u8; DUE];
     let mut shape = unread();
     let mut place = at;
     while shape.top < DUE {
         let top = shape.top;
         let depth = count_of(due[top]);
-        match node_at(bytes, place, count, shape.nodes, shape.atoms, depth) {
-            NodeAnswer::Refused(refusal) => return refused_part(refusal),
-            NodeAnswer::Node { code, len } => {
-                note(
-                    count,
-                    code,
-                    shape,
-                    body(bytes, place + 4, len),
-                    &mut codes,
-                    &mut coefficients,
-                    &mut constants,
-                );
+        match node_at(
+            bytes,
+            place,
+            count,
+            shape,
+            depth,
+            codes,
+            coefficients,
+            constants,
+        ) {
+            NodeAnswer::Refused(refusal) => return PartsAnswer::Refused(refusal),
+            NodeAnswer::Node(code) => {
                 shape = grown(shape, code, &mut due);
-                place = place + 4 + len;
+                place = place + 4 + body_length(count, code);
             }
         }
     }
-    let question = Question {
-        n,
-        codes,
-        coefficients,
-        constants,
-    };
-    end_from(bytes, place, question)
+    end_from(bytes, place, n)
+}
+
+// Reads the question that starts at a place, up to its end record, into parts that are lent as the empty question's. Where it is refused, they hold what was read so far.
+fn parts_from(
+    bytes: &[u8],
+    at: usize,
+    codes: &mut [u8],
+    coefficients: &mut [i32],
+    constants: &mut [i32],
+) -> PartsAnswer
+    requires { ⌜ Blank (now codes) (now coefficients) (now constants) ⌝ }
+    ensures { λ r. ⌜ PartsSay (readFrom (now (bytes .entry)) at) r (now (codes .exit)) (now (coefficients .exit)) (now (constants .exit)) ⌝ }
+{
+    match head_at(bytes, at) {
+        HeadAnswer::Refused(refusal) => PartsAnswer::Refused(refusal),
+        HeadAnswer::Head(n) => formula_from(bytes, at + 5, n, codes, coefficients, constants),
+    }
 }
 
 // Reads the question that starts at a place, up to its end record. What comes after is the caller's.
 pub fn read_from(bytes: &[u8], at: usize) -> ReadPart
     ensures { λ r. ⌜ r ≡ partRead (readFrom (now (bytes .entry)) at) ⌝ }
 {
-    match head_at(bytes, at) {
-        HeadAnswer::Refused(refusal) => refused_part(refusal),
-        HeadAnswer::Head(n) => formula_from(bytes, at + 5, n),
+    let mut codes = [0u8; Question::NODES];
+    let mut coefficients = [0i32; Question::COEFFICIENTS];
+    let mut constants = [0i32; Question::ATOMS];
+    match parts_from(bytes, at, &mut codes, &mut coefficients, &mut constants) {
+        PartsAnswer::Refused(refusal) => {
+            let next = refusal.place;
+            let question = Question::empty();
+            let answer = ReadAnswer::Refused(refusal);
+            ReadPart {
+                answer,
+                question,
+                next,
+            }
+        }
+        PartsAnswer::Parts { n, next } => {
+            let question = Question {
+                n,
+                codes,
+                coefficients,
+                constants,
+            };
+            let answer = ReadAnswer::Accepted;
+            ReadPart {
+                answer,
+                question,
+                next,
+            }
+        }
     }
+}
+
+// Reads a question that is all there is, into parts that are lent as the empty question's. Where it is refused, they hold what was read so far.
+pub fn read_parts(
+    bytes: &[u8],
+    codes: &mut [u8],
+    coefficients: &mut [i32],
+    constants: &mut [i32],
+) -> PartsAnswer
+    requires { ⌜ Blank (now codes) (now coefficients) (now constants) ⌝ }
+    ensures { λ r. ⌜ HeldSays (readHeld (now (bytes .entry))) r (now (codes .exit)) (now (coefficients .exit)) (now (constants .exit)) ⌝ }
+{
+    let parts = parts_from(bytes, 0, codes, coefficients, constants);
+    if let PartsAnswer::Parts { n: _, next } = parts {
+        if next < bytes.len() {
+            return PartsAnswer::Refused(Refusal {
+                number: 6,
+                place: next,
+            });
+        }
+    }
+    parts
 }
 
 // Reads a question that is all there is.
 pub fn read(bytes: &[u8]) -> Held
     ensures { λ r. ⌜ r ≡ readHeld (now (bytes .entry)) ⌝ }
 {
-    let part = read_from(bytes, 0);
-    let answer = part.answer;
-    let next = part.next;
-    let question = part.question;
-    if let ReadAnswer::Accepted = answer {
-        if next < bytes.len() {
-            let left = ReadAnswer::Refused(Refusal {
-                number: 6,
-                place: next,
-            });
-            let empty = Question::empty();
-            return Held {
-                answer: left,
-                question: empty,
+    let mut codes = [0u8; Question::NODES];
+    let mut coefficients = [0i32; Question::COEFFICIENTS];
+    let mut constants = [0i32; Question::ATOMS];
+    match read_parts(bytes, &mut codes, &mut coefficients, &mut constants) {
+        PartsAnswer::Refused(refusal) => {
+            let answer = ReadAnswer::Refused(refusal);
+            let question = Question::empty();
+            Held { answer, question }
+        }
+        PartsAnswer::Parts { n, next: _ } => {
+            let answer = ReadAnswer::Accepted;
+            let question = Question {
+                n,
+                codes,
+                coefficients,
+                constants,
             };
+            Held { answer, question }
         }
     }
-    Held { answer, question }
 }
 
-// Every check comes before the first byte, so a refused call leaves the buffer as it was.
-pub fn write(question: Question, bytes: &mut [u8]) -> WriteAnswer
-    ensures { λ r. ⌜ Writes question (now (bytes .entry)) r (now (bytes .exit)) ⌝ }
+// Writes the question that is lent by its parts. Every check comes before the first byte, so a refused call leaves the buffer as it was.
+pub fn write_parts(
+    n: u8,
+    codes: &[u8],
+    coefficients: &[i32],
+    constants: &[i32],
+    bytes: &mut [u8],
+) -> WriteAnswer
+    requires { ⌜ Full (heldQuestion n (now codes) (now coefficients) (now constants)) ⌝ }
+    ensures { λ r. ⌜ Writes (heldQuestion n (now (codes .entry)) (now (coefficients .entry)) (now (constants .entry))) (now (bytes .entry)) r (now (bytes .exit)) ⌝ }
 {
-    match checked(question) {
+    match checked(n, codes, coefficients, constants) {
         FormulaAnswer::Refused(refusal) => WriteAnswer::Refused(refusal),
         FormulaAnswer::Formula {
             nodes,
@@ -207,8 +263,18 @@ pub fn write(question: Question, bytes: &mut [u8]) -> WriteAnswer
                     place: 0,
                 });
             }
-            put_question(question, nodes, bytes);
+            put_question(n, codes, coefficients, constants, nodes, bytes);
             WriteAnswer::Written(all)
         }
     }
+}
+
+pub fn write(question: Question, bytes: &mut [u8]) -> WriteAnswer
+    ensures { λ r. ⌜ Writes question (now (bytes .entry)) r (now (bytes .exit)) ⌝ }
+{
+    let n = question.n;
+    let codes = question.codes;
+    let coefficients = question.coefficients;
+    let constants = question.constants;
+    write_parts(n, &codes, &coefficients, &constants, bytes)
 }

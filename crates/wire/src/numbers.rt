@@ -1,10 +1,10 @@
-// The numbers of an atom: within their limits, in a body, and put into a row.
+// The numbers of an atom: within their limits, and taken from its body.
 ghost use mathlib.Core.Path.{_≡_};
 ghost use Prim.Native.Nat.{_+_, _*_, _≤_};
 ghost use lib.ListN.{length};
-ghost use lib.Seq.{sets};
-ghost use Rattle.scope.specs.Sizes.{variablesFit, coefficientFits, constantFits, numbersFit};
+ghost use Rattle.scope.specs.Sizes.{variablesFit, coefficientFits, constantFits};
 ghost use Rattle.scope.specs.Wire.{numberAt, numbersAt};
+ghost use Rattle.wire.specs.Steps.{AtomHeld, RowTaken, AtomTaken};
 use crate::records::count_of;
 use scope::Question;
 use whole::number_at;
@@ -36,29 +36,39 @@ pub fn constant_fits(number: i32) -> bool
     number <= Question::CONSTANT
 }
 
-// Of the body of an atom.
-pub fn numbers_fit(body: &[u8], n: usize) -> bool
-    requires { ⌜ (n ≤ 6) × (4 * n + 4 ≤ length (now body)) ⌝ }
-    ensures { λ r. ⌜ r ≡ numbersFit (numbersAt n (now (body .entry)) 0) (numberAt (now (body .entry)) (4 * n)) ⌝ }
+// The n coefficients from a byte on are put from a cell on, up to the first that does not fit.
+pub fn take_row(bytes: &[u8], start: usize, n: usize, coefficients: &mut [i32], cell: usize) -> bool
+    requires { ⌜ (start + 4 * n ≤ length (now bytes)) × (cell + n ≤ length (now coefficients)) ⌝ }
+    ensures { λ r. ⌜ RowTaken (numbersAt n (now (bytes .entry)) start) cell (now (coefficients .entry)) r (now (coefficients .exit)) ⌝ }
 {
     let mut i = 0;
     while i < n {
-        if !coefficient_fits(number_at(body, 4 * i)) {
+        let number = number_at(bytes, start + 4 * i);
+        if !coefficient_fits(number) {
             return false;
         }
+        coefficients[cell + i] = number;
         i += 1;
     }
-    constant_fits(number_at(body, 4 * n))
+    true
 }
 
-// The coefficients of an atom's body, put from a cell on.
-pub fn put_numbers(coefficients: &mut [i32], cell: usize, body: &[u8], n: usize)
-    requires { ⌜ (n ≤ 6) × ((4 * n + 4 ≤ length (now body)) × (cell + n ≤ length (now coefficients))) ⌝ }
-    ensures { λ _. ⌜ now (coefficients .exit) ≡ sets (now (coefficients .entry)) cell (numbersAt n (now (body .entry)) 0) ⌝ }
+// The numbers of an atom, whose body starts at a byte.
+pub fn take_atom(
+    bytes: &[u8],
+    start: usize,
+    n: usize,
+    atom: usize,
+    coefficients: &mut [i32],
+    constants: &mut [i32],
+) -> bool
+    requires { ⌜ AtomHeld n (now coefficients) (now constants) atom × (start + 4 * (n + 1) ≤ length (now bytes)) ⌝ }
+    ensures { λ r. ⌜ AtomTaken (numbersAt n (now (bytes .entry)) start) (numberAt (now (bytes .entry)) (start + 4 * n)) atom (now (coefficients .entry)) (now (constants .entry)) r (now (coefficients .exit)) (now (constants .exit)) ⌝ }
 {
-    let mut i = 0;
-    while i < n {
-        coefficients[cell + i] = number_at(body, 4 * i);
-        i += 1;
+    let constant = number_at(bytes, start + 4 * n);
+    constants[atom] = constant;
+    if take_row(bytes, start, n, coefficients, Question::VARIABLES * atom) {
+        return constant_fits(constant);
     }
+    false
 }

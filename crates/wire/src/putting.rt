@@ -8,11 +8,12 @@ ghost use lib.Seq.{sets};
 ghost use Rattle.scope.specs.Question.{nodeOf, isAtom, coefficientsOf, constantOf};
 ghost use Rattle.scope.specs.Wire.{headKind, endKind, kindOf};
 ghost use Rattle.scope.specs.Writing.{twoBytes, recordBytes, atomBody, nodeBytes};
-ghost use Rattle.wire.specs.Writes.{bytesTo, numbered, AtomHeld, NodeRoom, QuestionRoom};
+ghost use Rattle.wire.specs.Steps.{heldQuestion, AtomHeld};
+ghost use Rattle.wire.specs.Writes.{bytesTo, numbered, NodeRoom, QuestionRoom};
 use crate::reading::body_length;
 use crate::records::count_of;
-use crate::shape::is_atom;
 use scope::Question;
+use scope::is_atom;
 use whole::put_number;
 
 pub fn put_two(bytes: &mut [u8], at: usize, two: u16)
@@ -107,22 +108,25 @@ pub fn counted(atoms: usize, code: u8) -> usize
     if is_atom(code) { atoms + 1 } else { atoms }
 }
 
-pub fn put_question(question: Question, nodes: usize, bytes: &mut [u8])
-    requires { ⌜ QuestionRoom question nodes (now bytes) ⌝ }
-    ensures { λ _. ⌜ now (bytes .exit) ≡ sets (now (bytes .entry)) 0 (bytesTo question nodes ++ recordBytes endKind []) ⌝ }
+pub fn put_question(
+    n: u8,
+    codes: &[u8],
+    coefficients: &[i32],
+    constants: &[i32],
+    nodes: usize,
+    bytes: &mut [u8],
+)
+    requires { ⌜ QuestionRoom (heldQuestion n (now codes) (now coefficients) (now constants)) nodes (now bytes) ⌝ }
+    ensures { λ _. ⌜ now (bytes .exit) ≡ sets (now (bytes .entry)) 0 (bytesTo (heldQuestion n (now (codes .entry)) (now (coefficients .entry)) (now (constants .entry))) nodes ++ recordBytes endKind []) ⌝ }
 {
-    let n = question.n;
     let count = count_of(n);
-    let codes = question.codes;
-    let coefficients = question.coefficients;
-    let constants = question.constants;
     put_head(bytes, n);
     let mut at = 5;
     let mut atoms = 0;
     let mut i = 0;
     while i < nodes {
         let code = codes[i];
-        put_node(count, &coefficients, &constants, code, atoms, bytes, at);
+        put_node(count, coefficients, constants, code, atoms, bytes, at);
         at = at + 4 + body_length(count, code);
         atoms = counted(atoms, code);
         i += 1;

@@ -5,19 +5,18 @@ ghost use Prim.Native.Nat.{_+_, _*_, _≤_, _<_};
 ghost use lib.ListN.{length};
 ghost use lib.Dec.{leb, ltb};
 ghost use Rattle.scope.specs.Question.{nodeOf, codeOf};
+ghost use Rattle.scope.specs.Refusals.{refusal};
 ghost use Rattle.scope.specs.Wire.{nodeOfKind, bodyLength};
-ghost use Rattle.wire.specs.Steps.{frameAnswer, headAnswer, nodeFrame, nodeAnswer, heldQuestion, Notable, notedBody};
-use crate::body;
-use crate::numbers::numbers_fit;
-use crate::numbers::put_numbers;
+ghost use Rattle.wire.specs.declared.reading.NodeAnswer.{NodeAnswer};
+ghost use Rattle.wire.specs.Steps.{frameAnswer, headAnswer, nodeFrame, heldQuestion, Full, NodeRead};
+use crate::numbers::take_atom;
 use crate::numbers::variables_fit;
 use crate::records::HeaderAnswer;
 use crate::records::header_at;
 use crate::shape::Shape;
-use crate::shape::is_atom;
 use scope::Question;
 use scope::Refusal;
-use whole::number_at;
+use scope::is_atom;
 
 // Whether a record of a known kind and length is there.
 pub enum FrameAnswer {
@@ -31,10 +30,16 @@ pub enum HeadAnswer {
     Refused(Refusal),
 }
 
-// A node: its code, and the length of its body.
+// A node: its code.
 pub enum NodeAnswer {
-    Node { code: u8, len: usize },
+    Node(u8),
     Refused(Refusal),
+}
+
+pub fn refused(number: u8, place: usize) -> NodeAnswer
+    ensures { λ r. ⌜ r ≡ NodeAnswer.Refused (refusal number place) ⌝ }
+{
+    NodeAnswer::Refused(Refusal { number, place })
 }
 
 pub fn frame_at(bytes: &[u8], at: usize, due: u16, size: usize) -> FrameAnswer
@@ -111,31 +116,19 @@ pub fn node_frame(bytes: &[u8], at: usize, n: usize) -> NodeAnswer
     ensures { λ r. ⌜ r ≡ nodeFrame (now (bytes .entry)) at n ⌝ }
 {
     let HeaderAnswer::Header { kind, len } = header_at(bytes, at) else {
-        return NodeAnswer::Refused(Refusal {
-            number: 1,
-            place: at,
-        });
+        return refused(1, at);
     };
     let code = code_of_kind(kind);
     if code == 0 {
-        return NodeAnswer::Refused(Refusal {
-            number: 2,
-            place: at,
-        });
+        return refused(2, at);
     }
     if len != body_length(n, code) {
-        return NodeAnswer::Refused(Refusal {
-            number: 3,
-            place: at,
-        });
+        return refused(3, at);
     }
     if bytes.len() - at - 4 < len {
-        return NodeAnswer::Refused(Refusal {
-            number: 1,
-            place: at,
-        });
+        return refused(1, at);
     }
-    NodeAnswer::Node { code, len }
+    NodeAnswer::Node(code)
 }
 
 // No ninth atom, and no depth 17.
@@ -150,65 +143,39 @@ pub fn sized(atom: bool, atoms: usize, depth: usize) -> bool
     depth <= Question::DEPTH
 }
 
-// A node with all its checks.
+// A node with all its checks, noted in the parts of the question. An atom's numbers are noted as they are checked.
 pub fn node_at(
     bytes: &[u8],
     at: usize,
     n: usize,
-    nodes: usize,
-    atoms: usize,
-    depth: usize,
-) -> NodeAnswer
-    requires { ⌜ n ≤ 6 ⌝ }
-    ensures { λ r. ⌜ r ≡ nodeAnswer (now (bytes .entry)) at n nodes atoms depth ⌝ }
-{
-    let frame = node_frame(bytes, at, n);
-    let NodeAnswer::Node { code, len } = frame else {
-        return frame;
-    };
-    let atom = is_atom(code);
-    if Question::NODES <= nodes {
-        return NodeAnswer::Refused(Refusal {
-            number: 5,
-            place: at,
-        });
-    }
-    if !sized(atom, atoms, depth) {
-        return NodeAnswer::Refused(Refusal {
-            number: 5,
-            place: at,
-        });
-    }
-    if !atom {
-        return frame;
-    }
-    if numbers_fit(body(bytes, at + 4, len), n) {
-        return frame;
-    }
-    NodeAnswer::Refused(Refusal {
-        number: 4,
-        place: at,
-    })
-}
-
-// Notes a node in the parts of the question; its numbers where it is an atom.
-pub fn note(
-    n: usize,
-    code: u8,
     shape: Shape,
-    body: &[u8],
+    depth: usize,
     codes: &mut [u8],
     coefficients: &mut [i32],
     constants: &mut [i32],
-)
-    requires { ⌜ Notable (heldQuestion n (now codes) (now coefficients) (now constants)) code (shape .nodes) (shape .atoms) (now body) ⌝ }
-    ensures { λ _. ⌜ heldQuestion n (now (codes .exit)) (now (coefficients .exit)) (now (constants .exit)) ≡ notedBody (heldQuestion n (now (codes .entry)) (now (coefficients .entry)) (now (constants .entry))) code (shape .nodes) (shape .atoms) (now (body .entry)) ⌝ }
+) -> NodeAnswer
+    requires { ⌜ (n ≤ 6) × Full (heldQuestion n (now codes) (now coefficients) (now constants)) ⌝ }
+    ensures { λ r. ⌜ NodeRead (now (bytes .entry)) at depth (shape .nodes) (shape .atoms) (heldQuestion n (now (codes .entry)) (now (coefficients .entry)) (now (constants .entry))) r (heldQuestion n (now (codes .exit)) (now (coefficients .exit)) (now (constants .exit))) ⌝ }
 {
+    let frame = node_frame(bytes, at, n);
+    let NodeAnswer::Node(code) = frame else {
+        return frame;
+    };
     let nodes = shape.nodes;
     let atoms = shape.atoms;
-    codes[nodes] = code;
-    if is_atom(code) {
-        constants[atoms] = number_at(body, 4 * n);
-        put_numbers(coefficients, Question::VARIABLES * atoms, body, n);
+    let atom = is_atom(code);
+    if Question::NODES <= nodes {
+        return refused(5, at);
     }
+    if !sized(atom, atoms, depth) {
+        return refused(5, at);
+    }
+    codes[nodes] = code;
+    if !atom {
+        return frame;
+    }
+    if take_atom(bytes, at + 4, n, atoms, coefficients, constants) {
+        return frame;
+    }
+    refused(4, at)
 }

@@ -1,7 +1,6 @@
 // The formula as far as it is known, which reading and writing both walk along.
 ghost use mathlib.Core.Path.{_≡_};
 ghost use lib.ListN.{replicate};
-ghost use Rattle.scope.specs.Question.{nodeOf, isAtom};
 ghost use Rattle.wire.specs.Formula.{knownBy, Open, Grown, Unread};
 use scope::Question;
 
@@ -24,12 +23,6 @@ pub fn unread() -> Shape
         atoms: 0,
         top: DUE - 1,
     }
-}
-
-pub fn is_atom(code: u8) -> bool
-    ensures { λ r. ⌜ r ≡ isAtom (nodeOf code) ⌝ }
-{
-    if code == 0 { false } else { code <= 2 }
 }
 
 // A node takes the place of the part that was due first, and its own parts are due before the others, one deeper.

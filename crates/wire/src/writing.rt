@@ -6,24 +6,23 @@ ghost use lib.ListN.{length, take, drop};
 ghost use Rattle.scope.specs.Whole.{all, allFrom};
 ghost use Rattle.scope.specs.Sizes.{coefficientFits, numbersFit};
 ghost use Rattle.scope.specs.Question.{nodeOf, isUnused, coefficientsOf, constantOf};
-ghost use Rattle.scope.specs.Refusals.{refusal};
 ghost use Rattle.scope.specs.Writing.{numbersClear};
-ghost use Rattle.wire.specs.declared.reading.NodeAnswer.{NodeAnswer};
-ghost use Rattle.wire.specs.Steps.{heldQuestion, Full};
-ghost use Rattle.wire.specs.Writes.{numbered, AtomHeld, codeAnswer, FormulaSays, CheckedSays, CodeLeft, coefficientClear, constantClear};
+ghost use Rattle.wire.specs.Steps.{heldQuestion, Full, AtomHeld};
+ghost use Rattle.wire.specs.Writes.{numbered, codeAnswer, FormulaSays, CheckedSays, CodeLeft, isZero, coefficientClear, constantClear};
 use crate::numbers::coefficient_fits;
 use crate::numbers::constant_fits;
 use crate::numbers::variables_fit;
 use crate::reading::NodeAnswer;
 use crate::reading::body_length;
+use crate::reading::refused;
 use crate::reading::sized;
 use crate::records::count_of;
 use crate::shape::DUE;
 use crate::shape::grown;
-use crate::shape::is_atom;
 use crate::shape::unread;
 use scope::Question;
 use scope::Refusal;
+use scope::is_atom;
 
 // The formula's nodes and atoms, and the bytes of the head and its nodes.
 pub enum FormulaAnswer {
@@ -67,12 +66,6 @@ pub fn is_node(code: u8) -> bool
     if code == 0 { false } else { code <= 5 }
 }
 
-fn refused(number: u8, place: usize) -> NodeAnswer
-    ensures { λ r. ⌜ r ≡ NodeAnswer.Refused (refusal number place) ⌝ }
-{
-    NodeAnswer::Refused(Refusal { number, place })
-}
-
 // A node's code with all its checks.
 pub fn code_at(
     n: usize,
@@ -97,24 +90,19 @@ pub fn code_at(
     if !sized(atom, atoms, depth) {
         return refused(5, nodes);
     }
-    let len = body_length(n, code);
     if !atom {
-        return NodeAnswer::Node { code, len };
+        return NodeAnswer::Node(code);
     }
     if atom_fits(n, coefficients, constants, atoms) {
-        return NodeAnswer::Node { code, len };
+        return NodeAnswer::Node(code);
     }
     refused(4, nodes)
 }
 
-pub fn formula_of(question: Question) -> FormulaAnswer
-    requires { ⌜ question .n ≤ 6 ⌝ }
-    ensures { λ r. ⌜ FormulaSays question r ⌝ }
+pub fn formula_of(n: usize, codes: &[u8], coefficients: &[i32], constants: &[i32]) -> FormulaAnswer
+    requires { ⌜ (n ≤ 6) × Full (heldQuestion n (now codes) (now coefficients) (now constants)) ⌝ }
+    ensures { λ r. ⌜ FormulaSays (heldQuestion n (now (codes .entry)) (now (coefficients .entry)) (now (constants .entry))) r ⌝ }
 {
-    let n = count_of(question.n);
-    let codes = question.codes;
-    let coefficients = question.coefficients;
-    let constants = question.constants;
     let mut due = [1u8; DUE];
     let mut shape = unread();
     let mut len = 5;
@@ -123,17 +111,17 @@ pub fn formula_of(question: Question) -> FormulaAnswer
         let depth = count_of(due[top]);
         match code_at(
             n,
-            &codes,
-            &coefficients,
-            &constants,
+            codes,
+            coefficients,
+            constants,
             shape.nodes,
             shape.atoms,
             depth,
         ) {
             NodeAnswer::Refused(refusal) => return FormulaAnswer::Refused(refusal),
-            NodeAnswer::Node { code, len: size } => {
+            NodeAnswer::Node(code) => {
                 shape = grown(shape, code, &mut due);
-                len = len + 4 + size;
+                len = len + 4 + body_length(n, code);
             }
         }
     }
@@ -145,9 +133,9 @@ pub fn formula_of(question: Question) -> FormulaAnswer
 }
 
 // The first code from a place on that is not zero, or 64.
-pub fn code_left(codes: [u8; Question::NODES], from: usize) -> usize
-    requires { ⌜ from ≤ 64 ⌝ }
-    ensures { λ r. ⌜ CodeLeft codes from r ⌝ }
+pub fn code_left(codes: &[u8], from: usize) -> usize
+    requires { ⌜ (from ≤ 64) × (length (now codes) ≡ 64) ⌝ }
+    ensures { λ r. ⌜ CodeLeft (now (codes .entry)) from r ⌝ }
 {
     let mut i = from;
     while i < Question::NODES {
@@ -159,42 +147,14 @@ pub fn code_left(codes: [u8; Question::NODES], from: usize) -> usize
     i
 }
 
-// Each coefficient is one of the n of an atom, or zero.
-pub fn coefficients_clear(
-    coefficients: [i32; Question::COEFFICIENTS],
-    n: usize,
-    atoms: usize,
-) -> bool
-    ensures { λ r. ⌜ r ≡ allFrom (coefficientClear n atoms) 0 coefficients ⌝ }
-{
-    let mut cell = 0;
-    while cell < Question::COEFFICIENTS {
-        if !cell_clear(coefficients[cell], cell, n, atoms) {
-            return false;
-        }
-        cell += 1;
-    }
-    true
-}
-
-pub fn cell_clear(number: i32, cell: usize, n: usize, atoms: usize) -> bool
-    ensures { λ r. ⌜ r ≡ coefficientClear n atoms cell number ⌝ }
-{
-    if cell % Question::VARIABLES < n {
-        if cell / Question::VARIABLES < atoms {
-            return true;
-        }
-    }
-    number == 0
-}
-
-// Each constant is that of an atom, or zero.
-pub fn constants_clear(constants: [i32; Question::ATOMS], atoms: usize) -> bool
-    ensures { λ r. ⌜ r ≡ allFrom (constantClear atoms) 0 constants ⌝ }
+// The n numbers from a cell on.
+pub fn row_clear(numbers: &[i32], cell: usize, n: usize) -> bool
+    requires { ⌜ cell + n ≤ length (now numbers) ⌝ }
+    ensures { λ r. ⌜ r ≡ all isZero (take n (drop cell (now (numbers .entry)))) ⌝ }
 {
     let mut i = 0;
-    while i < Question::ATOMS {
-        if !constant_clear(constants[i], i, atoms) {
+    while i < n {
+        if numbers[cell + i] != 0 {
             return false;
         }
         i += 1;
@@ -202,21 +162,38 @@ pub fn constants_clear(constants: [i32; Question::ATOMS], atoms: usize) -> bool
     true
 }
 
-pub fn constant_clear(number: i32, i: usize, atoms: usize) -> bool
-    ensures { λ r. ⌜ r ≡ constantClear atoms i number ⌝ }
+// Each coefficient is one of the n of an atom, or zero: those behind the n in an atom's row, and the rows that no atom has.
+pub fn coefficients_clear(coefficients: &[i32], n: usize, atoms: usize) -> bool
+    requires { ⌜ (n ≤ 6) × ((atoms ≤ 8) × (length (now coefficients) ≡ 48)) ⌝ }
+    ensures { λ r. ⌜ r ≡ allFrom (coefficientClear n atoms) 0 (now (coefficients .entry)) ⌝ }
 {
-    if i < atoms {
-        return true;
+    let mut atom = 0;
+    while atom < atoms {
+        if !row_clear(
+            coefficients,
+            Question::VARIABLES * atom + n,
+            Question::VARIABLES - n,
+        ) {
+            return false;
+        }
+        atom += 1;
     }
-    number == 0
+    let used = Question::VARIABLES * atoms;
+    row_clear(coefficients, used, Question::COEFFICIENTS - used)
 }
 
-pub fn numbers_clear(question: Question, atoms: usize) -> bool
-    ensures { λ r. ⌜ r ≡ numbersClear question atoms ⌝ }
+// Each constant is that of an atom, or zero.
+pub fn constants_clear(constants: &[i32], atoms: usize) -> bool
+    requires { ⌜ (atoms ≤ 8) × (length (now constants) ≡ 8) ⌝ }
+    ensures { λ r. ⌜ r ≡ allFrom (constantClear atoms) 0 (now (constants .entry)) ⌝ }
 {
-    let n = count_of(question.n);
-    let coefficients = question.coefficients;
-    let constants = question.constants;
+    row_clear(constants, atoms, Question::ATOMS - atoms)
+}
+
+pub fn numbers_clear(n: usize, coefficients: &[i32], constants: &[i32], atoms: usize) -> bool
+    requires { ⌜ (n ≤ 6) × ((atoms ≤ 8) × ((length (now coefficients) ≡ 48) × (length (now constants) ≡ 8))) ⌝ }
+    ensures { λ r. ⌜ r ≡ numbersClear (numbered n (now (coefficients .entry)) (now (constants .entry))) atoms ⌝ }
+{
     if coefficients_clear(coefficients, n, atoms) {
         return constants_clear(constants, atoms);
     }
@@ -224,20 +201,21 @@ pub fn numbers_clear(question: Question, atoms: usize) -> bool
 }
 
 // Every check on a held question, and the length of its bytes before the end record.
-pub fn checked(question: Question) -> FormulaAnswer
-    ensures { λ r. ⌜ CheckedSays question r ⌝ }
+pub fn checked(n: u8, codes: &[u8], coefficients: &[i32], constants: &[i32]) -> FormulaAnswer
+    requires { ⌜ Full (heldQuestion n (now codes) (now coefficients) (now constants)) ⌝ }
+    ensures { λ r. ⌜ CheckedSays (heldQuestion n (now (codes .entry)) (now (coefficients .entry)) (now (constants .entry))) r ⌝ }
 {
-    if !variables_fit(question.n) {
+    if !variables_fit(n) {
         return FormulaAnswer::Refused(Refusal {
             number: 4,
             place: 0,
         });
     }
-    let formula = formula_of(question);
+    let count = count_of(n);
+    let formula = formula_of(count, codes, coefficients, constants);
     let FormulaAnswer::Formula { nodes, atoms, len } = formula else {
         return formula;
     };
-    let codes = question.codes;
     let left = code_left(codes, nodes);
     if left < Question::NODES {
         return FormulaAnswer::Refused(Refusal {
@@ -245,7 +223,7 @@ pub fn checked(question: Question) -> FormulaAnswer
             place: left,
         });
     }
-    if numbers_clear(question, atoms) {
+    if numbers_clear(count, coefficients, constants, atoms) {
         return FormulaAnswer::Formula { nodes, atoms, len };
     }
     FormulaAnswer::Refused(Refusal {

@@ -4,7 +4,7 @@ use native.Mathlib.Nat.{zero-add, mul-le-mul-right, div-add-mod', add-mul}
 use native.Mathlib.Numerals.{add-one}
 use native.Mathlib.Omega.{arith}
 use mathlib.Core.Path.{_≡_, refl, sym, ap, _∙_, subst}
-use mathlib.Core.Bool.{Bool, true, false, cond, _&&_}
+use mathlib.Core.Bool.{Bool, true, false, cond, _&&_, and-eq-true-iff}
 use mathlib.Core.List.{List}
 use lib.ListN.{length, getD, drop, drop-of-length-le}
 use lib.Seq.{drop-cons}
@@ -15,7 +15,7 @@ use Rattle.scope.specs.Whole.{allFrom}
 use Rattle.scope.specs.Building.{tableWidth}
 use Rattle.scope.specs.Running.{tableRows, cellFits, tableFits, rowAfter}
 use Rattle.words.specs.Tables.{Runs}
-use Rattle.words.specs.Tests.{both, all-each, allFrom-each}
+use Rattle.theory.specs.Tests.{all-each, allFrom-each}
 
 -- ---- the check, at a width
 
@@ -68,9 +68,9 @@ unfolding tableFits
 at-n n cells word r =
     let rows = tableRows n cells in
     let fits = allFrom (cellFits (tableWidth n) rows) 0 cells in
-    let e = both (eqb (length cells % tableWidth n) 0) (leb 1 rows && (leb rows 65535 && fits)) (r .table) in
-    let f = both (leb 1 rows) (leb rows 65535 && fits) (e .1) in
-    let g = both (leb rows 65535) fits (f .1) in
+    let e = and-eq-true-iff (eqb (length cells % tableWidth n) 0) (leb 1 rows && (leb rows 65535 && fits)) .0 (r .table) in
+    let f = and-eq-true-iff (leb 1 rows) (leb rows 65535 && fits) .0 (e .1) in
+    let g = and-eq-true-iff (leb rows 65535) fits .0 (f .1) in
     let z : length cells % tableWidth n ≡ 0 = eqb-true _ _ (e .0) in
     record {
       wide = refl;

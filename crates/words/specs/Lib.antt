@@ -1,3 +1,2 @@
--- Tests of every element of a list, one by one; and what `run` asks of its parts.
-pub mod Tests
+-- What `run` asks of its parts.
 pub mod Tables

@@ -3,9 +3,10 @@ use scope::Question;
 use scope::Refusal;
 use scope::SpellAnswer;
 use scope::TruthAnswer;
+use scope::letters;
 ghost use mathlib.Core.Path.{_≡_};
 ghost use mathlib.Core.Bool.{cond, _&&_};
-ghost use Prim.Native.Nat.{ℕ, _+_, _%_, _^_, _≤_, _<_};
+ghost use Prim.Native.Nat.{ℕ, _+_, _%_, _≤_, _<_};
 ghost use lib.ListN.{length};
 ghost use lib.Dec.{leb, ltb, eqb};
 ghost use Rattle.scope.specs.Whole.{all, allFrom};
@@ -22,14 +23,6 @@ fn within(number: usize, most: usize) -> bool
     ensures { λ r. ⌜ r ≡ leb 1 number && leb number most ⌝ }
 {
     1 <= number && number <= most
-}
-
-// The number of letters, 2^n.
-fn letters(n: usize) -> usize
-    requires { ⌜ n ≤ 6 ⌝ }
-    ensures { λ r. ⌜ r ≡ 2 ^ n ⌝ }
-{
-    1usize << n
 }
 
 // Whether every letter of the word is below a number.

@@ -12,18 +12,16 @@ kinds-of-requires : tie.Need-kinds-of-requires
 kinds-of-requires c κs = let w = c .before .before .before .pre in (w .sized .codes, few-kinds w)
 
 room-requires : tie.Need-room-requires
-room-requires c κs =
-    let counted = c .before .before .before in
-    (rw (counted .kinds-of .ensures .1) (some-atoms (counted .before .before .before .before .pre)), omega arith)
+room-requires c κs = (rw (c .before .before .kinds-of .ensures .1) (some-atoms (c .before .before .before .before .before .before .pre)), omega arith)
 
 abbrev start : tie.After-room → tie.Start
-start c = c .before .before .before .before .before .before .before .before
+start c = c .before .before .before .before .before .before .before
 
 -- the rows lent
 lent : (c : tie.After-room) → c .room .result ≡ buildRoom (start c .args .question) (start c .args .keys .now) (start c .args .table .now)
 lent c =
     let args = start c .args in
-    let kinds = c .before .before .before .before .kinds-of in
+    let kinds = c .before .before .before .kinds-of in
     let letters = c .before .letters in
     room-is (args .question) (kinds .result .m) (letters .result) (c .room .result) (args .keys .now) (args .table .now) (kinds .ensures .1) (letters .ensures .0) (c .room .ensures)
 
@@ -34,14 +32,14 @@ returns c =
 
 build-rows-requires : tie.Need-build-rows-requires
 build-rows-requires c κs =
-    let tested = c .before .before .before in
-    let roomed = tested .before in
+    let roomed = c .before .before .before in
+    let kinds = c .before .before .before .before .before .before .kinds-of .ensures in
     record {
       limits = start roomed .pre;
-      kinds-are = roomed .before .before .before .before .kinds-of .ensures;
-      letters-are = roomed .before .letters .ensures .0;
+      kinds-are = kinds .0;
+      count = kinds .1;
       rows-are = lent roomed;
-      some-rows = omega (arith, tested .if1 .left);
+      some-rows = omega (arith, c .before .before .if1 .left);
     }
 
 pub build-question-spec : {M : Type 1} → statement M

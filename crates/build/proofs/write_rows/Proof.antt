@@ -12,18 +12,18 @@ use Rattle.build.proofs.write_rows.Statement.{statement}
 use Rattle.build.proofs.write_rows.Tie as tie
 
 abbrev Inv-loop : tie.InvT-loop
-Inv-loop table₀ codes kinds m sums letters keys head next count width row₀ table row = RowsWritten codes kinds m sums letters keys count row table₀ table
+Inv-loop table₀ plan sums keys links count width row₀ table row = RowsWritten plan sums keys count row table₀ table
 
 abbrev μ-loop : tie.MeasureT-loop
-μ-loop table₀ codes kinds m sums letters keys head next count width row₀ table row = count - row
+μ-loop table₀ plan sums keys links count width row₀ table row = count - row
 
 -- in a turn the row's part is within the table
 within : (c : tie.In-loop Inv-loop μ-loop)
-    → c .before .loop .row * (1 + c .before .before .before .before .before .args .letters) + (1 + c .before .before .before .before .before .args .letters)
+    → c .before .loop .row * (1 + c .before .before .before .before .before .args .plan .letters) + (1 + c .before .before .before .before .before .args .plan .letters)
     ≤ length (c .before .loop .table)
 within c =
     let start = c .before .before .before .before .before in
-    omega (arith, row-end (c .before .loop .row) (start .args .count) (1 + start .args .letters) (c .loop-test .taken), start .pre .1 .1, c .before .loop .inv .size)
+    omega (arith, row-end (c .before .loop .row) (start .args .count) (1 + start .args .plan .letters) (c .loop-test .taken), start .pre .1 .1, c .before .loop .inv .size)
 
 loop-holds : tie.Need-loop-holds Inv-loop μ-loop
 loop-holds c = no-row-written (c .before .before .before .pre .0) (c .before .before .before .args .table .now)
@@ -44,7 +44,7 @@ part-write-row-start : tie.Need-part-write-row-start Inv-loop μ-loop
 part-write-row-start c = omega arith
 
 part-write-row-end : tie.Need-part-write-row-end Inv-loop μ-loop
-part-write-row-end c = within c
+part-write-row-end c = let w = within c in omega (arith, w)
 
 write-row-requires : tie.Need-write-row-requires Inv-loop μ-loop
 write-row-requires c κs =
@@ -59,7 +59,7 @@ loop-again : tie.Need-loop-again Inv-loop μ-loop
 loop-again c =
     let at-loop = c .before .before .before .before .before in
     let start = at-loop .before .before .before .before in
-    let width = 1 + start .args .letters in
+    let width = 1 + start .args .plan .letters in
     let row = at-loop .loop .row in
     let called = c .before .before .write-row in
     row-more (start .pre .0) (start .args .table .now) row (c .before .before .before .before .loop-test .taken) (at-loop .loop .inv) (called .last .0)

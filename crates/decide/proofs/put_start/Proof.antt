@@ -10,7 +10,7 @@ returns c =
     let start = c .before .before .before .before in
     let args = start .args in
     record {
-      keys-are = row-0 (args .keys .now) _ (args .constants .now) (args .m) (omega arith) (c .before .store-row .ensures);
+      keys-are = row-0 (args .keys .now) _ (args .constants .now) (args .width) (omega arith) (c .before .store-row .ensures);
       path-is = path-0 (args .path .now) (omega arith);
     }
 

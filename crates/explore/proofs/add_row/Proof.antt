@@ -1,33 +1,24 @@
--- `explore::add_row` meets its contract: the row that is stored has the key's cells, and so accepts as they do. Assumes nothing.
-use mathlib.Core.Path.{_∙_, ap}
-use mathlib.Core.Bool.{Bool, _&&_}
-use mathlib.Core.List.{List, map}
+-- `explore::add_row` meets its contract: the row is stored and indexed, and the key is tested. Assumes nothing.
 use borrow.Author.Needs.{needs}
-use Rattle.scope.specs.Question.{nodeOf}
-use Rattle.scope.specs.States.{formulaWorth}
-use Rattle.explore.specs.Areas.{Stored}
-use Rattle.explore.proofs.Cells.{stored-worths}
 use Rattle.explore.proofs.add_row.Statement.{statement}
 use Rattle.explore.proofs.add_row.Tie as tie
 
+add-requires : tie.Need-add-requires
+add-requires c κs =
+    let p = c .before .before .before .before .before .pre in
+    let f = p .1 in
+    (p .0 .indexed, (record { number = f .number; link = f .link; cells = f .room .keys-room }, f .is-key))
+
+put-path-requires : tie.Need-put-path-requires
+put-path-requires c κs = let f = c .before .before .before .before .before .before .before .before .before .before .pre .1 in (f .room .path-room, f .number, f .from, f .letter)
+
 returns : tie.Need-returns
-returns c =
-    let p = c .before .before .before .before in
-    let q = p .before .before .before .before .before .before .before in
-    let start = q .before .before .before .before .before .before .before in
-    let s : Stored (start .args .m) (start .args .deciding) (start .args .count) (start .args .key .now) (start .args .row) (start .args .letter) (start .args .keys .now) (start .args .path .now) (q .add .last .0) (p .put-path .last .0) =
-    record { keys-are = q .add .ensures .stored; path-is = p .put-path .ensures } in
-    record {
-      stored = s;
-      indexed = q .add .ensures .indexed;
-      says =
-          c .asks-accepts .ensures
-          ∙ ap (λ (ws : List Bool). start .args .deciding && formulaWorth (map nodeOf (start .args .codes .now)) ws)
-          (stored-worths (start .args .kinds .now) (start .pre .1 .0) s);
-    }
+returns c = record {
+  stored = record { keys-are = c .before .before .before .before .before .before .before .before .add .ensures .stored; path-is = c .before .before .before .put-path .ensures };
+  indexed = c .before .before .before .before .before .before .before .before .add .ensures .indexed;
+  says = c .tests .ensures;
+}
 
 pub add-row-spec : {M : Type 1} → statement M
 add-row-spec =
-    tie.close
-    (tie.spec (λ c κs. search needs) (λ c κs. search needs) (λ c. search needs) (λ c κs. search needs) (λ c. search needs)
-    (λ c. search needs) (λ c. search needs) (λ c. search needs) returns)
+    tie.close (tie.spec add-requires put-path-requires (λ c κs. search needs) (λ c. search needs) (λ c. search needs) (λ c. search needs) returns)

@@ -8,30 +8,28 @@ use Rattle.explore.proofs.resume.Tie as tie
 
 insert-rows-requires : tie.Need-insert-rows-requires
 insert-rows-requires c κs =
-    let start = c .before .before .before .before .before .before in
-    let p = start .pre in
-    let a = start .args in
+    let p = c .before .before .before .before .pre in
+    let a = c .before .before .before .before .args in
     let r = p .1 .0 .rows-there in
-    let empty = p .1 .1 .indexed .sized in
-    let cells : a .count * a .m ≤ a .rows * a .m = mul-le-mul-right (a .m) (r .count-ok) in (
-      p .1 .1 .indexed,
+    let none = p .1 .1 .0 in
+    let cells : a .from .count * a .plan .width ≤ a .plan .rows * a .plan .width = mul-le-mul-right (a .plan .width) (r .count-ok) in (
+      none .indexed,
       record {
-        width = p .0 .atoms;
-        some-buckets = empty .some-buckets;
-        few-buckets = empty .few-buckets;
+        narrow = p .0 .narrow;
+        some-buckets = none .indexed .sized .some-buckets;
+        few-buckets = none .indexed .sized .few-buckets;
         few-rows = omega (arith, r .count-ok, r .lent .few-rows);
         cells = omega (arith, r .lent .keys-room);
-        links = omega (arith, r .count-ok, p .1 .1 .links);
+        link = omega (arith, r .count-ok, none .room);
       },
     )
 
 explore-requires : tie.Need-explore-requires
 explore-requires c κs =
-    let p = c .before .before .before .before .before .before .before .before .before .before .before .before .before .before .before .pre in
-    let b = c .before .before .before .before .before .before .before .before .insert-rows in
-    (p .0, (p .1 .0, record { indexed = b .ensures; links = omega (arith, p .1 .1 .links, b .kept .1 .1 .1 .0) }))
+    let p = c .before .before .before .before .before .before .before .before .before .before .pre in
+    let b = c .before .before .before .before .before .insert-rows in
+    (p .0, (p .1 .0, (record { indexed = b .ensures; room = omega (arith, p .1 .1 .0 .room, b .kept .1 .1 .0) }, p .1 .1 .1)))
 
 pub resume-spec : {M : Type 1} → statement M
 resume-spec =
-    tie.close
-    (tie.spec insert-rows-requires explore-requires (λ c. search needs) (λ c. search needs) (λ c. search needs) (λ c. search needs) (λ c. search needs))
+    tie.close (tie.spec insert-rows-requires explore-requires (λ c. search needs) (λ c. search needs) (λ c. search needs) (λ c. search needs))

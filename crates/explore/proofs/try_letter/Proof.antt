@@ -1,129 +1,109 @@
 -- `explore::try_letter` meets its contract: each way out is one of the laws of Trying, with what the calls gave. Assumes nothing.
-use Prim.Native.Nat.{_*_, _≤_, _<_}
+use Prim.Native.Nat.{_<_}
 use native.Mathlib.Omega.{arith}
 use borrow.Author.Needs.{needs}
-use lib.ListN.{length, take}
-use Rattle.step.specs.Laws.{Worked, step-length, front-worked}
-use Rattle.index.specs.Index.{Key}
-use Rattle.index.specs.Laws.{key-long, key-front}
-use Rattle.explore.specs.Machine.{cellMachine}
-use Rattle.explore.proofs.Trying.{Runs, cell-runs, letter-below, row-within, stepping, room-for, tried-old, tried-full, tried-found, tried-new}
+use mathlib.Core.List.{List}
+use lib.ListN.{take}
+use lib.IntN.{ℤ}
+use mathlib.Core.Path.{refl}
+use Rattle.step.specs.Cells.{stepCells}
+use Rattle.index.specs.Index.{Finds}
+use Rattle.explore.specs.Machine.{machine, Runs, machine-runs}
+use Rattle.explore.specs.Standing.{RowAdded}
+use Rattle.explore.proofs.Trying.{letter-below, stepping, fits, tried-old, tried-full, tried-found, tried-new, front-stays}
 use Rattle.explore.proofs.try_letter.Statement.{statement}
 use Rattle.explore.proofs.try_letter.Tie as tie
 
-runs : (s : tie.Start) → Runs (s .args .codes .now) (s .args .kinds .now) (s .args .m) (s .args .sums .now) (s .args .letters) (take (s .args .m) (s .args .keys .now))
-    (cellMachine (s .args .codes .now) (s .args .kinds .now) (s .args .m) (s .args .sums .now) (s .args .letters) (take (s .args .m) (s .args .keys .now)))
-runs s = cell-runs (s .args .codes .now) (s .args .kinds .now) (s .args .m) (s .args .sums .now) (s .args .letters) (take (s .args .m) (s .args .keys .now))
+-- ---- at the start
 
-abbrev start : tie.After-step-row → tie.Start
-start c = c .before .before .before .before .before .before
+module _ (s : tie.Start) where
+  start-runs : let a = s .args in Runs (a .plan) (a .sums .now) (take (a .plan .width) (a .keys .now)) (machine (a .plan) (a .sums .now) (a .keys .now))
+  start-runs = let a = s .args in machine-runs (a .plan) (a .sums .now) (a .keys .now)
 
-lent-long : (s : tie.Start) → s .args .m ≤ length (s .args .key .now)
-lent-long s = key-long (s .pre .0 .atoms) (s .pre .1 .1 .1 .1)
+  letter-ok : s .args .s .letter < s .args .plan .letters
+  letter-ok = letter-below start-runs (s .pre .0) (s .pre .1 .0) (s .pre .1 .1 .1 .below)
 
--- the row that was lent has the target
-worked : (c : tie.After-step-row)
-    → let a = start c .args in
-    Worked (a .kinds .now) (a .m) (a .sums .now) (a .letter) (a .keys .now) (a .row * a .m) (c .step-row .last .1 .1 .1 .1 .1 .1 .0)
-worked c =
-    let a = start c .args in
-    front-worked (a .kinds .now) (a .m) (a .sums .now) (a .letter) (a .keys .now) (a .row * a .m) (a .key .now) (lent-long (start c)) (c .step-row .ensures)
-
--- and is a key as before
-keyed : (c : tie.After-step-row) → Key (start c .args .m) (c .step-row .last .1 .1 .1 .1 .1 .1 .0)
-keyed c =
-    let a = start c .args in
-    let size = step-length (a .kinds .now) (a .m) (a .sums .now) (a .letter) (a .keys .now) (a .row * a .m) in
-    key-front _ (a .m) size (start c .pre .0 .atoms) (start c .pre .1 .1 .1 .1) (c .step-row .ensures)
-
-mul-step-row : tie.Need-mul-step-row
-mul-step-row c = let s = c .before .before .before .before in omega (arith, row-within (runs s) (s .pre .0) (s .pre .1 .0) (s .pre .1 .1 .1 .0))
+  few-rows : s .args .s .row < 65535
+  few-rows = omega (arith, s .pre .1 .1 .1 .below, s .pre .1 .0 .rows-there .count-ok, s .pre .1 .0 .rows-there .lent .few-rows)
 
 step-row-requires : tie.Need-step-row-requires
-step-row-requires c κs = let s = c .before .before .before .before .before in (stepping (runs s) (s .pre .0) (s .pre .1 .0) (s .pre .1 .1 .1 .0), lent-long s)
+step-row-requires c κs = let s = c .before .before .before in let p = s .pre in stepping (start-runs s) (p .0) (p .1 .0) (p .1 .1 .1 .below) (p .1 .1 .1) .stepping
 
 find-requires : tie.Need-find-requires
-find-requires c κs = let w = c .before .before .before .before in (start w .pre .1 .1 .0 .indexed, keyed w)
+find-requires c κs =
+    let s = c .before .before .before .before .before .before .before in
+    let p = s .pre in
+    (p .1 .1 .0 .indexed, rw (c .before .before .before .step-row .ensures) (stepping (start-runs s) (p .0) (p .1 .0) (p .1 .1 .1 .below) (p .1 .1 .1) .keyed))
+
+-- what was found of the target
+finds : (c : tie.After-find)
+    → let a = c .before .before .before .before .before .before .before .before .args in Finds (a .keys .now) (a .plan .width) (stepCells (a .plan .kinds) 8 (a .sums .now) (a .s .letter) (a .row)) (a .s .count) (c .find .result)
+finds c = rw (c .before .before .before .before .step-row .ensures) at (c .find .ensures)
 
 after-requires : tie.Need-after-requires
-after-requires c κs =
-    let s = c .before .before .before .before .before .before .before .before .before .before .before .before in
-    let p = s .pre in
-    (letter-below (runs s) (p .0) (p .1 .0) (p .1 .1 .1 .0), p .0 .few-letters, omega (arith, p .1 .0 .rows-there .count-ok, p .1 .0 .rows-there .lent .few-rows))
+after-requires c κs = let s = c .before .before .before .before .before .before .before .before .before .before in (letter-ok s, s .pre .0 .few-letters, s .pre .0 .bits .below, few-rows s)
 
 returns : tie.Need-returns
 returns c =
-    let w = c .before .before .before .before .before .before .before in
-    let p = start w .pre in
-    (tried-old (runs (start w)) (p .0) (p .1 .0) (p .1 .1 .1 .0) (worked w) (c .before .before .find .ensures) (c .before .if1 .taken) (p .1 .1 .0) (c .after .ensures), keyed w)
+    let s = c .before .before .before .before .before .before .before .before .before .before .before in
+    let p = s .pre in
+    (tried-old (start-runs s) (p .0) (p .1 .0) (p .1 .1 .1 .below) (p .1 .1 .1) (finds (c .before .before .before)) (c .before .if1 .taken) (p .1 .1 .0) (c .after .ensures), refl)
 
 returns-2 : tie.Need-returns-2
 returns-2 c =
-    let w = c .before .before .before .before .before .before .before .before in
-    let p = start w .pre in
-    (tried-full (runs (start w)) (p .0) (p .1 .0) (p .1 .1 .1 .0) (worked w) (c .before .before .before .find .ensures) (c .before .before .if1 .left) (c .before .if2 .taken) (c .ending .ensures), keyed w)
+    let s = c .before .before .before .before .before .before .before .before .before .before .before .before .before .before in
+    let p = s .pre in
+    (tried-full (start-runs s) (p .0) (p .1 .0) (p .1 .1 .1 .below) (p .1 .1 .1) (finds (c .before .before .before .before .before .before)) (c .before .before .before .before .if1 .left) (c .before .if2 .taken) (c .ending .ensures), refl)
+
+-- ---- the next row
 
 add-row-requires : tie.Need-add-row-requires
 add-row-requires c κs =
-    let w = c .before .before .before .before .before .before .before .before .before .before .before .before in
-    let s = start w in
+    let s = c .before .before .before .before .before .before .before .before .before .before .before .before .before .before .before .before in
     let p = s .pre in
-    let r = p .1 .0 .rows-there in
-    let free : s .args .count < s .args .rows = omega (arith, r .count-ok, c .before .before .before .before .before .if2 .left) in (
-      p .1 .1 .0 .indexed,
-      (
-        room-for (runs s) (p .0) (p .1 .0) (p .1 .1 .1 .0) (worked w) free,
-        (
-          record {
-            codes-whole = p .0 .codes-whole;
-            number = omega (arith, r .lent .few-rows);
-            link = omega (arith, p .1 .1 .0 .links);
-            from = omega (arith, r .lent .few-rows, r .count-ok);
-            letter = omega (arith, letter-below (runs s) (p .0) (p .1 .0) (p .1 .1 .1 .0), p .0 .few-letters);
-          },
-          keyed w,
-        ),
-      ),
-    )
+    let free : s .args .s .count < s .args .plan .rows = omega (arith, p .1 .0 .rows-there .count-ok, c .before .before .before .if2 .left) in
+    (p .1 .1 .0, rw (c .before .before .before .before .before .before .before .before .before .before .before .before .step-row .ensures) (fits (start-runs s) (p .0) (p .1 .0) (p .1 .1 .1 .below) (p .1 .1 .1) free (p .1 .1 .0)))
+
+module _ (c : tie.After-add-row) where
+  abbrev start : tie.Start
+  start = c .before .before .before .before .before .before .before .before .before .before .before .before .before .before .before .before .before
+
+  free : start .args .s .count < start .args .plan .rows
+  free = omega (arith, start .pre .1 .0 .rows-there .count-ok, c .before .before .before .before .if2 .left)
+
+  abbrev key : List ℤ
+  key = let a = start .args in stepCells (a .plan .kinds) 8 (a .sums .now) (a .s .letter) (a .row)
+
+  added : let a = start .args in RowAdded (a .plan) (a .s) key (a .keys .now) (a .path .now) (c .add-row .last .1 .0) (c .add-row .last .1 .1 .0) (c .add-row .last .1 .1 .1 .0) (c .add-row .result)
+  added = rw (c .before .before .before .before .before .before .before .before .before .before .before .before .before .step-row .ensures) at (c .add-row .ensures)
 
 returns-3 : tie.Need-returns-3
 returns-3 c =
-    let added = c .before .before .before .before .before .before .before .before .before in
-    let full = added .before .before .before .before .before .before in
-    let w = added .before .before .before .before .before .before .before .before .before .before .before .before .before in
+    let w = c .before .before .before .before .before .before .before .before in
     let s = start w in
-    let p = s .pre in
-    let free : s .args .count < s .args .rows = omega (arith, p .1 .0 .rows-there .count-ok, full .if2 .left) in (
-      tried-found (runs s) (p .0) (p .1 .0) (p .1 .1 .1 .0) (worked w) (full .before .before .find .ensures) (full .before .if1 .left) free (added .add-row .ensures)
-          (c .before .if3 .taken) (c .ending2 .ensures),
-      keyed w,
+    let p = s .pre in (
+      tried-found (start-runs s) (p .0) (p .1 .0) (p .1 .1 .1 .below) (p .1 .1 .1) (finds (w .before .before .before .before .before .before .before .before .before)) (c .before .before .before .before .before .before .before .before .before .before .before .before .before .before .before .if1 .left) (free w) (added w) (c .before .before .if3 .taken) (c .ending2 .ensures),
+      front-stays (start-runs s) (p .0) (p .1 .0) (p .1 .1 .1 .below) (p .1 .1 .1) (finds (w .before .before .before .before .before .before .before .before .before)) (c .before .before .before .before .before .before .before .before .before .before .before .before .before .before .before .if1 .left) (free w) (added w),
     )
-
-after-requires-2 : tie.Need-after-requires-2
-after-requires-2 c κs =
-    let s = c .before .before .before .before .before .before .before .before .before .before .before .before .before .before .before .before .before .before .before .before .before .before .before .before .before .before .before in
-    let p = s .pre in
-    (letter-below (runs s) (p .0) (p .1 .0) (p .1 .1 .1 .0), p .0 .few-letters, omega (arith, p .1 .0 .rows-there .count-ok, p .1 .0 .rows-there .lent .few-rows))
 
 returns-4 : tie.Need-returns-4
 returns-4 c =
-    let added = c .before .before .before .before .before .before .before .before .before in
-    let full = added .before .before .before .before .before .before in
-    let w = added .before .before .before .before .before .before .before .before .before .before .before .before .before in
+    let w = c .before .before .before .before .before .before .before .before in
     let s = start w in
     let p = s .pre in
-    let a = added .add-row in
-    let free : s .args .count < s .args .rows = omega (arith, p .1 .0 .rows-there .count-ok, full .if2 .left) in (
-      tried-new (runs s) (p .0) (p .1 .0) (p .1 .1 .1 .0) (worked w) (full .before .before .find .ensures) (full .before .if1 .left) free (a .ensures)
-          (a .kept .1 .1 .1 .0) (a .kept .1 .1 .1 .1 .0) (omega (arith, a .kept .1 .1 .1 .1 .1 .1 .0, p .1 .1 .0 .links)) (c .before .if3 .left) (c .after2 .ensures),
-      keyed w,
+    let k = w .add-row .kept in (
+      tried-new (start-runs s) (p .0) (p .1 .0) (p .1 .1 .1 .below) (p .1 .1 .1) (finds (w .before .before .before .before .before .before .before .before .before)) (c .before .before .before .before .before .before .before .before .before .before .before .before .before .before .before .if1 .left) (free w) (added w)
+          (record { few-rows = p .1 .0 .rows-there .lent .few-rows; keys-room = omega (arith, k .1 .0, p .1 .0 .rows-there .lent .keys-room); path-room = omega (arith, k .1 .1 .0, p .1 .0 .rows-there .lent .path-room) })
+          (record { indexed = added w .indexed; room = omega (arith, k .1 .1 .1 .0, p .1 .1 .0 .room) })
+          (c .before .before .if3 .left) (c .after2 .ensures),
+      front-stays (start-runs s) (p .0) (p .1 .0) (p .1 .1 .1 .below) (p .1 .1 .1) (finds (w .before .before .before .before .before .before .before .before .before)) (c .before .before .before .before .before .before .before .before .before .before .before .before .before .before .before .if1 .left) (free w) (added w),
     )
 
 pub try-letter-spec : {M : Type 1} → statement M
 try-letter-spec =
     tie.close
-    (tie.spec mul-step-row step-row-requires find-requires after-requires (λ c. search needs) (λ c. search needs) (λ c. search needs) returns
-    (λ c κs. search needs) (λ c. search needs) (λ c. search needs) (λ c. search needs) returns-2 add-row-requires (λ c. search needs)
-    (λ c κs. search needs) (λ c. search needs) (λ c. search needs) (λ c. search needs) (λ c. search needs) returns-3
-    (λ c. search needs) after-requires-2
-    (λ c. search needs) (λ c. search needs) (λ c. search needs) (λ c. search needs) returns-4)
+    (tie.spec step-row-requires find-requires after-requires (λ c. search needs) (λ c. search needs) returns
+    (λ c κs. search needs) (λ c. search needs) (λ c. search needs) returns-2 add-row-requires (λ c. search needs)
+    (λ c κs. search needs) (λ c. search needs) (λ c. search needs) (λ c. search needs) returns-3
+    (λ c. search needs) (λ c κs. let s = c .before .before .before .before .before .before .before .before .before .before .before .before .before .before .before .before .before .before .before .before .before .before .before .before in (letter-ok s, s .pre .0 .few-letters, s .pre .0 .bits .below, few-rows s))
+    (λ c. search needs) (λ c. search needs) (λ c. search needs) returns-4)

@@ -19,9 +19,10 @@ returns c =
     let s = w .before .before .before .before .before .before .before .before in
     let q = s .args .q in
     let values = s .args .values .now in
-    c .formula-worth .ensures ∙
+    c .truth-at .ensures ∙
+    c .before .truths-of .ensures .says (w .worths-of .result) (w .worths-of .ensures .whole) ∙
     worths-satisfy (asked (q .codes) (q .coefficients) (q .constants) values) values (w .worths-of .result) (w .worths-of .ensures) ∙
     ap (λ (p : Question). satisfied p values) (asked-is q values (s .pre .count))
 
 pub satisfies-spec : {M : Type 1} → statement M
-satisfies-spec = tie.close (tie.spec worths-of-requires (λ c κs. search needs) returns)
+satisfies-spec = tie.close (tie.spec worths-of-requires (λ c κs. search needs) (λ c κs. search needs) returns)

@@ -1,5 +1,5 @@
 -- `step::kinds_of` meets its contract. The invariant: the kinds of the codes passed are noted, with 0 past them. The measure is 64 less i. Assumes nothing.
-use mathlib.Core.Path.{sym}
+use mathlib.Core.Path.{sym, _∙_}
 use mathlib.Core.Logic.{⊎-elim}
 use Prim.Native.Nat.{_-_, _≤_, _<_}
 use native.Mathlib.Omega.{arith}
@@ -25,22 +25,20 @@ array-write-kinds : tie.Need-array-write-kinds Inv-loop μ-loop
 array-write-kinds c =
     let at-loop = c .before .before .before .before in
     let h : at-loop .loop .i < length (at-loop .before .args .codes .now) = omega arith in
-    below-eight (at-loop .loop .inv .1) h (c .before .if1 .taken) (c .if2 .taken) (at-loop .before .pre .1)
+    below-eight (at-loop .loop .inv .1) h (sym (c .before .is-atom .ensures) ∙ c .if1 .taken) (at-loop .before .pre .1)
 
 add-m : tie.Need-add-m Inv-loop μ-loop
 add-m c = record { fits = omega (arith, array-write-kinds c) }
 
 loop-again : tie.Need-loop-again Inv-loop μ-loop
 loop-again c =
-    let at-loop = c .before .before .before in
+    let at-loop = c .before .before .before .before in
     let s = at-loop .loop .inv .1 in
     let h : at-loop .loop .i < length (at-loop .before .args .codes .now) = omega arith in (
       omega arith,
       ⊎-elim
-          (λ w. rw (w .2, w .3) (noted s h (w .0 .taken) (w .1 .taken) (at-loop .before .pre .1)))
-          (⊎-elim
-          (λ w. rw (w .2, w .3) (passed s h (λ e. omega (arith, w .1 .left)) (λ e. omega (arith, w .1 .left))))
-          (λ w. rw (w .1, w .2) (passed s h (λ e. omega (arith, w .0 .left)) (λ e. omega (arith, w .0 .left)))))
+          (λ w. rw (w .1, w .2) (noted s h (sym (c .before .is-atom .ensures) ∙ w .0 .taken) (at-loop .before .pre .1)))
+          (λ w. rw (w .1, w .2) (passed s h (sym (c .before .is-atom .ensures) ∙ w .0 .left)))
           (c .if1 .came),
     )
 
@@ -54,4 +52,4 @@ returns c =
 pub kinds-of-spec : {M : Type 1} → statement M
 kinds-of-spec =
     tie.close
-    (tie.spec Inv-loop μ-loop loop-holds (λ c. search needs) array-write-kinds add-m (λ c. search needs) (λ c. search needs) loop-again returns)
+    (tie.spec Inv-loop μ-loop loop-holds (λ c. search needs) (λ c κs. search needs) array-write-kinds add-m (λ c. search needs) (λ c. search needs) loop-again returns)

@@ -7,7 +7,8 @@ use lib.Signed.{ltZ}
 use mir.Syntax.{w32, w64}
 use mir.Val.{SFits, toZ, ofZ}
 use mir.ValLaws.{toZ-ofZ, ofZ-fits}
-use Rattle.whole.proofs.TwosComplement.{widened, fits-64, bits-below, bits-above}
+use Rattle.theory.specs.Bits.{fits-64, widened}
+use Rattle.whole.proofs.TwosComplement.{bits-below, bits-above}
 use Rattle.whole.proofs.bits_of.Statement.{statement}
 use Rattle.whole.proofs.bits_of.Tie as tie
 use Rattle.whole.proofs.bits_of.Reads as reads

@@ -1,29 +1,25 @@
 -- `wire::end_from` meets its contract: the end record is there, or what was refused.
-use native.Mathlib.Omega.{arith}
-use mathlib.Core.Path.{sym, ap, _∙_}
-use denote.Ref.{now}
-use Rattle.wire.specs.Answers.{partRead}
-use Rattle.wire.proofs.Nodes.{frame-within, end-refused, end-there}
 use borrow.Author.Needs.{needs}
+use native.Mathlib.Omega.{arith}
+use mathlib.Core.Path.{sym, _∙_}
+use denote.Ref.{now}
+use Rattle.wire.proofs.Nodes.{frame-within, end-refused, end-there}
 use Rattle.wire.proofs.end_from.Statement.{statement}
 use Rattle.wire.proofs.end_from.Tie as tie
 
-add-t8 : tie.Need-add-t8
-add-t8 c =
+add-t7 : tie.Need-add-t7
+add-t7 c =
     let a = c .before .before .before .before .args in omega (arith, frame-within (now (a .bytes)) (a .at) 255 0 (sym (c .before .before .frame-at .ensures) ∙ c .enum-told .given .1))
 
 returns : tie.Need-returns
 returns c =
-    let a = c .before .before .before .before .before .before .args in
-    c .refused-part .ensures ∙ ap partRead (end-refused (now (a .bytes)) (a .at) (a .question) _ (sym (c .before .before .before .before .frame-at .ensures) ∙ c .before .before .refusal .given .1))
+    let a = c .before .before .before .before .before .args in
+    end-refused (now (a .bytes)) (a .at) (a .n) _ (sym (c .before .before .before .frame-at .ensures) ∙ c .before .refusal .given .1)
 
 returns-2 : tie.Need-returns-2
 returns-2 c =
     let a = c .before .before .before .before .args in
-    ap partRead (end-there (now (a .bytes)) (a .at) (a .question) (sym (c .before .before .frame-at .ensures) ∙ c .enum-told .given .1))
+    end-there (now (a .bytes)) (a .at) (a .n) (sym (c .before .before .frame-at .ensures) ∙ c .enum-told .given .1)
 
 pub end-from-spec : {M : Type 1} → statement M
-end-from-spec =
-    tie.close
-    (tie.spec (λ c κs. search needs) (λ c. search needs) (λ c κs. search needs) (λ c. search needs) add-t8 returns
-    returns-2)
+end-from-spec = tie.close (tie.spec (λ c κs. search needs) (λ c. search needs) (λ c. search needs) add-t7 returns returns-2)

@@ -8,7 +8,7 @@ use Rattle.scope.specs.Whole.{all}
 use Rattle.scope.specs.Sizes.{variablesFit}
 use Rattle.scope.specs.Words.{lettersFit}
 use Rattle.scope.specs.Running.{tableFits}
-use Rattle.words.specs.Tests.{failed, passed, from-one}
+use Rattle.theory.specs.Tests.{failed, passed, from-one}
 use Rattle.words.proofs.Running.{ran-no-variables, ran-no-table, ran-no-letter, ran-truth}
 use Rattle.words.proofs.run.Statement.{statement}
 use Rattle.words.proofs.run.Tie as tie
@@ -27,7 +27,7 @@ table-passes c = passed (c .before .table-fits .ensures) (c .if2 .left)
 letters-tested : (c : tie.After-letters-fit) → c .letters-fit .result ≡ lettersFit (c .before .before .before .before .before .before .before .before .args .n) (c .before .before .before .before .before .before .before .before .args .word .now)
 letters-tested c =
     c .letters-fit .ensures ∙
-    ap (λ (limit : ℕ). all (λ (letter : ℕ). ltb letter limit) (c .before .before .before .before .before .before .before .before .args .word .now)) (c .before .letters .ensures)
+    ap (λ (limit : ℕ). all (λ (letter : ℕ). ltb letter limit) (c .before .before .before .before .before .before .before .before .args .word .now)) (c .before .letters .ensures .0)
 
 letters-pass : (c : tie.Else3) → lettersFit (c .before .before .before .before .before .before .before .before .before .args .n) (c .before .before .before .before .before .before .before .before .before .args .word .now) ≡ true
 letters-pass c = passed (letters-tested (c .before)) (c .if3 .left)

@@ -10,7 +10,7 @@ use Rattle.scope.specs.declared.SpellAnswer.{SpellAnswer}
 use Rattle.scope.specs.Whole.{all}
 use Rattle.scope.specs.Sizes.{variablesFit}
 use Rattle.scope.specs.Words.{lettersFit}
-use Rattle.words.specs.Tests.{failed, passed, from-one}
+use Rattle.theory.specs.Tests.{failed, passed, from-one}
 use Rattle.words.proofs.Spelling.{spelt-no-variables, spelt-no-variable, spelt-no-letter, spelt-long, spelt-value}
 use Rattle.words.proofs.spell.Statement.{statement}
 use Rattle.words.proofs.spell.Tie as tie
@@ -26,7 +26,7 @@ variable-fits c = passed (c .before .within2 .ensures) (c .if2 .left)
 fits-tested : (c : tie.After-letters-fit) → c .letters-fit .result ≡ lettersFit (c .before .before .before .before .before .before .before .args .n) (c .before .before .before .before .before .before .before .args .word .now)
 fits-tested c =
     c .letters-fit .ensures ∙
-    ap (λ (limit : ℕ). all (λ (letter : ℕ). ltb letter limit) (c .before .before .before .before .before .before .before .args .word .now)) (c .before .letters .ensures)
+    ap (λ (limit : ℕ). all (λ (letter : ℕ). ltb letter limit) (c .before .before .before .before .before .before .before .args .word .now)) (c .before .letters .ensures .0)
 
 letters-pass : (c : tie.Else3) → lettersFit (c .before .before .before .before .before .before .before .before .args .n) (c .before .before .before .before .before .before .before .before .args .word .now) ≡ true
 letters-pass c = passed (fits-tested (c .before)) (c .if3 .left)

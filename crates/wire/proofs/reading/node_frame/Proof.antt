@@ -14,16 +14,16 @@ header c = found _ _ _ _ (sym (c .before .before .before .header-at .ensures) �
 
 returns : tie.Need-returns
 returns c =
-    let a = c .before .before .before .before .args in
-    node-short (now (a .bytes)) (a .at) (a .n) (cut (now (a .bytes)) (a .at) (sym (c .before .before .header-at .ensures) ∙ c .enum-told .given .1))
+    let a = c .before .before .before .before .before .args in
+    c .refused .ensures ∙ node-short (now (a .bytes)) (a .at) (a .n) (cut (now (a .bytes)) (a .at) (sym (c .before .before .before .header-at .ensures) ∙ c .before .enum-told .given .1))
 
 returns-2 : tie.Need-returns-2
-returns-2 c = node-kind _ _ _ _ _ _ (header (c .before .before)) (c .before .code-of-kind .ensures) (c .if1 .taken)
+returns-2 c = c .refused2 .ensures ∙ node-kind _ _ _ _ _ _ (header (c .before .before .before)) (c .before .before .code-of-kind .ensures) (c .before .if1 .taken)
 
 returns-3 : tie.Need-returns-3
 returns-3 c =
-    node-length _ _ _ _ _ _ (header (c .before .before .before .before)) (c .before .before .before .code-of-kind .ensures) (c .before .before .if1 .left)
-    (λ e. c .if2 .taken (e ∙ sym (c .before .body-length .ensures)))
+    c .refused3 .ensures ∙ node-length _ _ _ _ _ _ (header (c .before .before .before .before .before)) (c .before .before .before .before .code-of-kind .ensures) (c .before .before .before .if1 .left)
+    (λ e. c .before .if2 .taken (e ∙ sym (c .before .before .body-length .ensures)))
 
 sub-if3 : tie.Need-sub-if3
 sub-if3 c = omega (arith, header (c .before .before .before .before))
@@ -33,8 +33,8 @@ sub-if3-2 c = omega (arith, header (c .before .before .before .before))
 
 returns-4 : tie.Need-returns-4
 returns-4 c =
-    let h = header (c .before .before .before .before .before) in
-    node-cut _ _ _ _ _ _ h (c .before .before .before .before .code-of-kind .ensures) (c .before .before .before .if1 .left) (c .before .if2 .left ∙ c .before .before .body-length .ensures) (omega (arith, h .there))
+    let h = header (c .before .before .before .before .before .before) in
+    c .refused4 .ensures ∙ node-cut _ _ _ _ _ _ h (c .before .before .before .before .before .code-of-kind .ensures) (c .before .before .before .before .if1 .left) (c .before .before .if2 .left ∙ c .before .before .before .body-length .ensures) (omega (arith, h .there, c .before .if3 .taken))
 
 returns-5 : tie.Need-returns-5
 returns-5 c =
@@ -44,5 +44,5 @@ returns-5 c =
 pub node-frame-spec : {M : Type 1} → statement M
 node-frame-spec =
     tie.close
-    (tie.spec (λ c κs. search needs) (λ c. search needs) (λ c. search needs) returns (λ c κs. search needs) returns-2
-    (λ c κs. search needs) returns-3 sub-if3 sub-if3-2 returns-4 returns-5)
+    (tie.spec (λ c κs. search needs) (λ c. search needs) (λ c. search needs) (λ c κs. search needs) returns (λ c κs. search needs)
+    (λ c κs. search needs) returns-2 (λ c κs. search needs) (λ c κs. search needs) returns-3 sub-if3 sub-if3-2 (λ c κs. search needs) returns-4 returns-5)

@@ -34,8 +34,8 @@ large c t e =
     let a = c .before .before .before .before .before .before .before .args in
     ap (λ (x : Bool). (not x || ltb (a .atoms) 8) && leb (a .depth) 16) (sym (c .before .is-atom .ensures)) ∙ sym (c .sized .ensures) ∙ e
 
-atom : (c : tie.Else4) → isAtom (here (c .before .before .before .before .before .before .before .before .before .before)) ≡ true
-atom c = sym (c .before .before .before .before .is-atom .ensures) ∙ not-false _ (c .if4 .left)
+atom : (c : tie.Else4) → isAtom (here (c .before .before .before .before .before .before .before .before .before)) ≡ true
+atom c = sym (c .before .before .before .is-atom .ensures) ∙ not-false _ (c .if4 .left)
 
 returns : tie.Need-returns
 returns c =
@@ -56,34 +56,34 @@ returns-3 c =
 
 returns-4 : tie.Need-returns-4
 returns-4 c =
-    let s = c .before .before .before .before .before .before .before .before .before .before in
+    let s = c .before .before .before .before .before .before .before .before .before in
     code-plain (held s) (s .args .nodes) (s .args .atoms) (s .args .depth)
-    (c .before .before .before .before .before .before .before .before .if1 .left) (used (c .before .before .before .before .before)) (large (c .before .before .before) true (not-false _ (c .before .before .if3 .left))) _ (c .before .body-length .ensures)
-    (sym (c .before .before .before .before .is-atom .ensures) ∙ not-true _ (c .if4 .taken))
+    (c .before .before .before .before .before .before .before .if1 .left) (used (c .before .before .before .before)) (large (c .before .before) true (not-false _ (c .before .if3 .left)))
+    (sym (c .before .before .before .is-atom .ensures) ∙ not-true _ (c .if4 .taken))
 
 atom-fits-requires : tie.Need-atom-fits-requires
 atom-fits-requires c κs =
-    let s = c .before .before .before .before .before .before .before .before .before .before in
+    let s = c .before .before .before .before .before .before .before .before .before in
     record {
       variables = s .pre .0;
-      few = atom-few (isAtom (here s)) (s .args .atoms) (s .args .depth) (large (c .before .before .before) true (not-false _ (c .before .before .if3 .left))) (atom c);
+      few = atom-few (isAtom (here s)) (s .args .atoms) (s .args .depth) (large (c .before .before) true (not-false _ (c .before .if3 .left))) (atom c);
       coefficients-full = s .pre .1 .coefficients;
       constants-full = s .pre .1 .constants;
     }
 
 returns-5 : tie.Need-returns-5
 returns-5 c =
-    let s = c .before .before .before .before .before .before .before .before .before .before .before .before in
+    let s = c .before .before .before .before .before .before .before .before .before .before .before in
     code-atom (held s) (s .args .nodes) (s .args .atoms) (s .args .depth)
-    (c .before .before .before .before .before .before .before .before .before .before .if1 .left) (used (c .before .before .before .before .before .before .before)) (large (c .before .before .before .before .before) true (not-false _ (c .before .before .before .before .if3 .left))) _ (c .before .before .before .body-length .ensures)
+    (c .before .before .before .before .before .before .before .before .before .if1 .left) (used (c .before .before .before .before .before .before)) (large (c .before .before .before .before) true (not-false _ (c .before .before .before .if3 .left)))
     (atom (c .before .before)) (sym (fits-alone (held s) (s .args .atoms)) ∙ sym (c .before .atom-fits .ensures) ∙ c .if5 .taken)
 
 returns-6 : tie.Need-returns-6
 returns-6 c =
-    let s = c .before .before .before .before .before .before .before .before .before .before .before .before .before in
+    let s = c .before .before .before .before .before .before .before .before .before .before .before .before in
     c .refused4 .ensures
     ∙ code-beyond (held s) (s .args .nodes) (s .args .atoms) (s .args .depth)
-    (c .before .before .before .before .before .before .before .before .before .before .before .if1 .left) (used (c .before .before .before .before .before .before .before .before)) (large (c .before .before .before .before .before .before) true (not-false _ (c .before .before .before .before .before .if3 .left)))
+    (c .before .before .before .before .before .before .before .before .before .before .if1 .left) (used (c .before .before .before .before .before .before .before)) (large (c .before .before .before .before .before) true (not-false _ (c .before .before .before .before .if3 .left)))
     (atom (c .before .before .before)) (sym (fits-alone (held s) (s .args .atoms)) ∙ sym (c .before .before .atom-fits .ensures) ∙ c .before .if5 .left)
 
 pub code-at-spec : {M : Type 1} → statement M
@@ -91,4 +91,4 @@ code-at-spec =
     tie.close
     (tie.spec (λ c κs. search needs) returns shared-slice-read-code (λ c κs. search needs) (λ c κs. search needs)
     returns-2 (λ c κs. search needs) (λ c κs. search needs) (λ c κs. search needs) returns-3
-    (λ c κs. search needs) returns-4 atom-fits-requires returns-5 (λ c κs. search needs) returns-6)
+    returns-4 atom-fits-requires returns-5 (λ c κs. search needs) returns-6)

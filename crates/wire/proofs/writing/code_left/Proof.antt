@@ -7,19 +7,19 @@ use Rattle.wire.proofs.writing.code_left.Statement.{statement}
 use Rattle.wire.proofs.writing.code_left.Tie as tie
 
 abbrev Inv-loop : tie.InvT-loop
-Inv-loop from codes i₀ i = LeftFrom codes i₀ i
+Inv-loop codes from i₀ i = LeftFrom codes i₀ i
 
 abbrev μ-loop : tie.MeasureT-loop
-μ-loop from codes i₀ i = 64 - i
+μ-loop codes from i₀ i = 64 - i
 
 loop-holds : tie.Need-loop-holds Inv-loop μ-loop
-loop-holds c = (search needs, λ later. refl)
+loop-holds c = (c .pre .0, λ later. refl)
 
 returns : tie.Need-returns Inv-loop μ-loop
-returns c = left-found _ _ _ (c .before .loop-test .taken) (c .if1 .taken) (c .before .before .loop .inv)
+returns c = left-found _ _ _ (c .before .before .loop-test .taken) (c .if1 .taken) (c .before .before .before .loop .inv)
 
 loop-again : tie.Need-loop-again Inv-loop μ-loop
-loop-again c = left-again _ _ _ (c .before .loop-test .taken) (c .if1 .left) (c .before .before .loop .inv)
+loop-again c = left-again _ _ _ (c .before .before .loop-test .taken) (c .if1 .left) (c .before .before .before .loop .inv)
 
 returns-2 : tie.Need-returns-2 Inv-loop μ-loop
 returns-2 c = left-none _ _ _ (c .loop-test .left) (c .before .loop .inv)

@@ -1,56 +1,67 @@
--- `wire::writing::coefficients_clear` meets its contract: what is left says whether all is clear.
+-- `wire::writing::coefficients_clear` meets its contract: the rows from an atom on say whether all is clear.
 use borrow.Author.Needs.{needs}
 use native.Mathlib.Omega.{arith}
-use mathlib.Core.Path.{_≡_, sym, _∙_}
-use mathlib.Core.Bool.{Bool, true, false}
+use mathlib.Core.Path.{sym, _∙_}
 use Prim.Native.Nat.{_-_}
-use lib.IntN.{pos}
-use lib.ListN.{length, getD}
-use mir.Syntax.{w32}
-use mir.ValLaws.{toZ-ofZ}
+use denote.Ref.{now}
 use borrow.Author.Tests.{not-true, not-false}
-use Rattle.wire.specs.Writes.{coefficientClear}
-use Rattle.wire.proofs.Sweeps.{SweptFrom, swept-start, swept-again, swept-not, swept-whole}
+use Rattle.wire.proofs.Sweeps.{RowsFrom, rows-start, rows-again, rows-not, rows-whole}
 use Rattle.wire.proofs.writing.coefficients_clear.Statement.{statement}
 use Rattle.wire.proofs.writing.coefficients_clear.Tie as tie
 
 abbrev Inv-loop : tie.InvT-loop
-Inv-loop n atoms coefficients cell₀ cell = SweptFrom (coefficientClear n atoms) coefficients cell
+Inv-loop coefficients n atoms atom₀ atom = RowsFrom n atoms coefficients atom
 
 abbrev μ-loop : tie.MeasureT-loop
-μ-loop n atoms coefficients cell₀ cell = 48 - cell
-
-full : (c : tie.Start Inv-loop μ-loop) → length (c .args .t1) ≡ 48
-full c = search needs
-
-clear : (c : tie.After-cell-clear Inv-loop μ-loop) (t : Bool) → c .cell-clear .result ≡ t → coefficientClear (c .before .before .before .before .args .n) (c .before .before .before .before .args .atoms) (c .before .before .before .loop .cell) (getD (c .before .before .before .before .args .t1) (c .before .before .before .loop .cell) (pos 0)) ≡ t
-clear c t e =
-    let z = getD (c .before .before .before .before .args .t1) (c .before .before .before .loop .cell) (pos 0) in
-    simp (toZ-ofZ w32 z (record { sfits = c .before .cell-clear-arg .given })) at (sym (c .cell-clear .ensures)) ∙ e
+μ-loop coefficients n atoms atom₀ atom = atoms - atom
 
 loop-holds : tie.Need-loop-holds Inv-loop μ-loop
-loop-holds c = swept-start (coefficientClear (c .args .n) (c .args .atoms)) (c .args .t1)
+loop-holds c = let a = c .args in rows-start (a .n) (a .atoms) (now (a .coefficients))
+
+mul-row-clear : tie.Need-mul-row-clear Inv-loop μ-loop
+mul-row-clear c = omega (arith, c .before .before .pre .1 .0)
+
+add-row-clear : tie.Need-add-row-clear Inv-loop μ-loop
+add-row-clear c = omega (arith, c .before .before .pre .0, c .before .before .pre .1 .0)
+
+sub-row-clear : tie.Need-sub-row-clear Inv-loop μ-loop
+sub-row-clear c = omega (arith, c .before .before .pre .0)
+
+row-clear-requires : tie.Need-row-clear-requires Inv-loop μ-loop
+row-clear-requires c κs = omega (arith, c .before .before .pre .0, c .before .before .pre .1 .0, c .before .before .pre .1 .1, c .loop-test .taken)
 
 returns : tie.Need-returns Inv-loop μ-loop
 returns c =
-    let a = c .before .before .before .before .before .args in
-    let l = c .before .before .before .before .loop in
-    swept-not (coefficientClear (a .n) (a .atoms)) (a .t1) (l .cell) (omega (arith, full (c .before .before .before .before .before), c .before .before .before .loop-test .taken)) (l .inv) (clear (c .before) false (not-true _ (c .if1 .taken)))
+    let s = c .before .before .before .before in
+    let a = s .args in
+    let l = c .before .before .before .loop in
+    rows-not (a .n) (a .atoms) (now (a .coefficients)) (s .pre .0) (s .pre .1 .0) (s .pre .1 .1) (l .atom) (l .inv) (c .before .before .loop-test .taken) (sym (c .before .row-clear .ensures) ∙ not-true _ (c .if1 .taken))
 
 loop-again : tie.Need-loop-again Inv-loop μ-loop
 loop-again c =
-    let a = c .before .before .before .before .before .args in
-    let l = c .before .before .before .before .loop in
-    swept-again (coefficientClear (a .n) (a .atoms)) (a .t1) (l .cell) (omega (arith, full (c .before .before .before .before .before), c .before .before .before .loop-test .taken)) (l .inv) (clear (c .before) true (not-false _ (c .if1 .left)))
+    let s = c .before .before .before .before in
+    let a = s .args in
+    let l = c .before .before .before .loop in
+    rows-again (a .n) (a .atoms) (now (a .coefficients)) (s .pre .0) (s .pre .1 .0) (s .pre .1 .1) (l .atom) (l .inv) (c .before .before .loop-test .taken) (sym (c .before .row-clear .ensures) ∙ not-false _ (c .if1 .left))
+
+mul-used : tie.Need-mul-used Inv-loop μ-loop
+mul-used c = omega (arith, c .before .before .pre .1 .0)
+
+sub-row-clear-2 : tie.Need-sub-row-clear-2 Inv-loop μ-loop
+sub-row-clear-2 c = omega (arith, c .before .before .pre .1 .0)
+
+row-clear-requires-2 : tie.Need-row-clear-requires-2 Inv-loop μ-loop
+row-clear-requires-2 c κs = omega (arith, c .before .before .pre .1 .0, c .before .before .pre .1 .1)
 
 returns-2 : tie.Need-returns-2 Inv-loop μ-loop
 returns-2 c =
-    let a = c .before .before .args in
-    let l = c .before .loop in
-    swept-whole (coefficientClear (a .n) (a .atoms)) (a .t1) (l .cell) (omega (arith, full (c .before .before), c .loop-test .left)) (l .inv)
+    let s = c .before .before .before in
+    let a = s .args in
+    let l = c .before .before .loop in
+    c .row-clear2 .ensures ∙ rows-whole (a .n) (a .atoms) (now (a .coefficients)) (s .pre .0) (s .pre .1 .0) (s .pre .1 .1) (l .atom) (l .inv) (c .before .loop-test .left)
 
 pub coefficients-clear-spec : {M : Type 1} → statement M
 coefficients-clear-spec =
     tie.close
-    (tie.spec Inv-loop μ-loop loop-holds (λ c. search needs) (λ c. search needs) (λ c κs. search needs) returns
-    (λ c. search needs) (λ c. search needs) loop-again returns-2)
+    (tie.spec Inv-loop μ-loop loop-holds mul-row-clear add-row-clear sub-row-clear row-clear-requires returns
+    (λ c. search needs) (λ c. search needs) loop-again mul-used sub-row-clear-2 row-clear-requires-2 returns-2)

@@ -15,7 +15,7 @@ use Rattle.wire.proofs.writing.row_fits.Statement.{statement}
 use Rattle.wire.proofs.writing.row_fits.Tie as tie
 
 abbrev Inv-loop : tie.InvT-loop
-Inv-loop coefficients cell n i₀ i = RowFrom coefficients cell n i
+Inv-loop coefficients cell n i₀ i = RowFrom coefficientFits coefficients cell n i
 
 abbrev μ-loop : tie.MeasureT-loop
 μ-loop coefficients cell n i₀ i = n - i
@@ -30,25 +30,25 @@ fits c t e =
     simp (toZ-ofZ w32 z (record { sfits = c .before .coefficient-fits-arg .given })) at (sym (c .coefficient-fits .ensures)) ∙ e
 
 loop-holds : tie.Need-loop-holds Inv-loop μ-loop
-loop-holds c = row-start (now (c .args .coefficients)) (c .args .cell) (c .args .n)
+loop-holds c = row-start coefficientFits (now (c .args .coefficients)) (c .args .cell) (c .args .n)
 
 returns : tie.Need-returns Inv-loop μ-loop
 returns c =
     let a = c .before .before .before .before .before .args in
     let l = c .before .before .before .before .loop in
-    row-not (now (a .coefficients)) (a .cell) (a .n) (l .i) (within (c .before .before .before .before .before)) (c .before .before .before .loop-test .taken) (l .inv) (fits (c .before) false (not-true _ (c .if1 .taken)))
+    row-not coefficientFits (now (a .coefficients)) (a .cell) (a .n) (l .i) (within (c .before .before .before .before .before)) (c .before .before .before .loop-test .taken) (l .inv) (fits (c .before) false (not-true _ (c .if1 .taken)))
 
 loop-again : tie.Need-loop-again Inv-loop μ-loop
 loop-again c =
     let a = c .before .before .before .before .before .args in
     let l = c .before .before .before .before .loop in
-    row-again (now (a .coefficients)) (a .cell) (a .n) (l .i) (within (c .before .before .before .before .before)) (c .before .before .before .loop-test .taken) (l .inv) (fits (c .before) true (not-false _ (c .if1 .left)))
+    row-again coefficientFits (now (a .coefficients)) (a .cell) (a .n) (l .i) (within (c .before .before .before .before .before)) (c .before .before .before .loop-test .taken) (l .inv) (fits (c .before) true (not-false _ (c .if1 .left)))
 
 returns-2 : tie.Need-returns-2 Inv-loop μ-loop
 returns-2 c =
     let a = c .before .before .args in
     let l = c .before .loop in
-    row-whole (now (a .coefficients)) (a .cell) (a .n) (l .i) (c .loop-test .left) (l .inv)
+    row-whole coefficientFits (now (a .coefficients)) (a .cell) (a .n) (l .i) (c .loop-test .left) (l .inv)
 
 pub row-fits-spec : {M : Type 1} → statement M
 row-fits-spec =
