@@ -2,6 +2,7 @@
 //! solver to measure against, and a generator of inputs. Nothing here is proved, and the proved code uses none of it.
 
 pub mod clock;
+pub mod count;
 pub mod generate;
 pub mod met;
 pub mod plain;

@@ -1,10 +1,13 @@
 //! Measures the proved calls and plain Rust side by side in one run, and prints tables in Markdown. The two take turns in each of several
-//! rounds; each has its median and its least time on the processor. Then other solvers, where they are installed, on the questions that are
-//! decided. `bench [ROUNDS]`, 15 rounds unless said.
+//! rounds; each has its median and its least time on the processor, and its instructions where valgrind is installed. Then other solvers, where
+//! they are installed, on the questions that are decided. `bench [ROUNDS]`, 15 rounds unless said.
+//!
+//! `bench repeat SIDE LINE REPEATS` does the work of one line for one side so often, and prints nothing: instructions are counted of that.
 
 use pelohuaki_bench::generate::{never_accepting, Random};
 use pelohuaki_bench::reading::{Building, Decision, Question, Refusal};
-use pelohuaki_bench::{clock, plain, reading, smt, vectors};
+use pelohuaki_bench::{clock, count, plain, reading, smt, vectors};
+use std::env;
 use std::hint::black_box;
 
 /// The calls that are measured. `Held` is the question as the calls hold it.
@@ -71,17 +74,6 @@ impl Calls for Proved {
 /// One round of some work. What the calls answer is folded into a number, which must be the same for both sides.
 type Round<'a> = Box<dyn FnMut() -> usize + 'a>;
 
-/// A round of the plain calls, and one of the proved calls where they are linked.
-macro_rules! sides {
-    ($work:ident($($argument:expr),*)) => {
-        vec![
-            $work::<Plain>($($argument),*),
-            #[cfg(feature = "proved")]
-            $work::<Proved>($($argument),*),
-        ]
-    };
-}
-
 fn reading<C: Calls>(questions: &[Vec<u8>]) -> Round<'_> {
     Box::new(move || questions.iter().map(|question| black_box(C::read(black_box(question))).is_some() as usize).sum())
 }
@@ -92,16 +84,24 @@ fn writing<C: Calls>(questions: &[Vec<u8>]) -> Round<'_> {
     Box::new(move || held.iter().map(|held| C::write(black_box(held), black_box(&mut buffer))).sum())
 }
 
-fn judging<'a, C: Calls>(questions: &'a [Vec<u8>], values: &'a [Vec<u64>]) -> Round<'a> {
+/// With values up to the judge's limit.
+fn judging<C: Calls>(questions: &[Vec<u8>]) -> Round<'_> {
+    let mut random = Random::new(1);
+    let mut value = |_| random.next() & Question::VALUE >> random.below(41);
+    let values: Vec<Vec<u64>> = questions.iter().map(|question| (0..question[4]).map(&mut value).collect()).collect();
     Box::new(move || {
-        let judged = questions.iter().zip(values).map(|(question, values)| C::judge(black_box(question), black_box(values)));
+        let judged = questions.iter().zip(&values).map(|(question, values)| C::judge(black_box(question), black_box(values)));
         judged.map(|answer| answer.expect("as many values as variables") as usize).sum()
     })
 }
 
+/// What deciding is lent, with room for every question: keys, path and word.
+fn areas() -> (Vec<i32>, Vec<u16>, Vec<u8>) {
+    (vec![0; Question::STATES * Question::ATOMS], vec![0; Question::STATES * 2], vec![0; Question::STATES])
+}
+
 fn deciding<C: Calls>(questions: &[Vec<u8>]) -> Round<'_> {
-    let rows = Question::STATES;
-    let (mut keys, mut path, mut word) = (vec![0; rows * Question::ATOMS], vec![0; rows * 2], vec![0; rows]);
+    let (mut keys, mut path, mut word) = areas();
     let mut decide = move |question: &Vec<u8>| match C::decide(black_box(question), &mut keys, &mut path, &mut word) {
         Decision::Found { states, letters } => 2 * states + (letters << 20),
         Decision::Never { states } => 2 * states + 1,
@@ -110,18 +110,126 @@ fn deciding<C: Calls>(questions: &[Vec<u8>]) -> Round<'_> {
     Box::new(move || questions.iter().map(&mut decide).sum())
 }
 
-fn building<C: Calls>(question: &[u8], states: usize) -> Round<'_> {
-    let held = reading::read(question).expect("a question");
-    let mut keys = vec![0; states * held.atoms()];
-    let mut table = vec![0; states * (1 + (1 << held.n))];
-    Box::new(move || match C::build(black_box(question), &mut keys, &mut table) {
-        Building::Built { states } => states,
+/// Its answer is the transitions that were built.
+fn building<C: Calls>(questions: &[Vec<u8>]) -> Round<'_> {
+    let (mut keys, mut table) = (vec![0; Question::STATES * Question::ATOMS], vec![0; Question::STATES * (1 + (1 << Question::VARIABLES))]);
+    let mut build = move |question: &Vec<u8>| match C::build(black_box(question), &mut keys, &mut table) {
+        Building::Built { states } => states * letters(question),
         other => panic!("{other:?}"),
-    })
+    };
+    Box::new(move || questions.iter().map(&mut build).sum())
 }
 
-fn running<'a, C: Calls>(n: usize, cells: &'a [u16], word: &'a [u8]) -> Round<'a> {
-    Box::new(move || C::run(n, black_box(cells), black_box(word)).expect("a table and a word") as usize)
+/// A long word by the question's table, which has so many states. Each call checks the whole table first.
+fn running<C: Calls>(question: &[u8], states: usize) -> Round<'_> {
+    let width = 1 + letters(question);
+    let (mut keys, mut cells) = (vec![0; states * Question::ATOMS], vec![0; states * width]);
+    assert_eq!(plain::build(question, &mut keys, &mut cells), Building::Built { states });
+    let mut random = Random::new(2);
+    let word: Vec<u8> = (0..LONG).map(|_| random.below(letters(question)) as u8).collect();
+    Box::new(move || C::run(question[4] as usize, black_box(&cells), black_box(&word)).expect("a table and a word") as usize)
+}
+
+/// How many letters a question has: its fifth byte is n.
+fn letters(question: &[u8]) -> usize {
+    1 << question[4]
+}
+
+/// How many letters a long word has.
+const LONG: usize = 1_000_000;
+
+/// What a line of the table measures.
+enum Work {
+    Read(Vec<Vec<u8>>),
+    Written(Vec<Vec<u8>>),
+    Judged(Vec<Vec<u8>>),
+    Decided(Vec<Vec<u8>>),
+    Built(Vec<Vec<u8>>),
+    /// A question whose table has so many states.
+    Run(Vec<u8>, usize),
+}
+
+impl Work {
+    fn round<C: Calls>(&self) -> Round<'_> {
+        match self {
+            Work::Read(questions) => reading::<C>(questions),
+            Work::Written(questions) => writing::<C>(questions),
+            Work::Judged(questions) => judging::<C>(questions),
+            Work::Decided(questions) => deciding::<C>(questions),
+            Work::Built(questions) => building::<C>(questions),
+            Work::Run(question, states) => running::<C>(question, *states),
+        }
+    }
+
+    /// A round of the side that has the name.
+    fn side(&self, name: &str) -> Round<'_> {
+        match name {
+            "plain" => self.round::<Plain>(),
+            #[cfg(feature = "proved")]
+            "proved" => self.round::<Proved>(),
+            other => panic!("there is no side {other}"),
+        }
+    }
+
+    /// How many units a round has, and what they are. The transitions do not depend on the solver.
+    fn units(&self) -> (usize, &'static str) {
+        match self {
+            Work::Read(questions) | Work::Written(questions) | Work::Judged(questions) => (questions.len(), "questions"),
+            Work::Decided(questions) => {
+                let (mut keys, mut path, mut word) = areas();
+                let mut tried = |question: &Vec<u8>| {
+                    let decision = plain::decide(question, &mut keys, &mut path, &mut word);
+                    count::tried(decision, letters(question), &path)
+                };
+                (questions.iter().map(&mut tried).sum(), "transitions")
+            }
+            Work::Built(questions) => (building::<Plain>(questions)(), "transitions"),
+            Work::Run(..) => (LONG, "letters"),
+        }
+    }
+}
+
+/// The sides that are there, the plain one first.
+const SIDES: &[&str] = if cfg!(feature = "proved") { &["plain", "proved"] } else { &["plain"] };
+
+/// The lines of the table. Other solvers are asked the questions of the first two.
+fn lines() -> Vec<(String, Work)> {
+    let blocks: Vec<Vec<u8>> = vectors::blocks().into_iter().map(<[u8]>::to_vec).collect();
+    let coconuts = vectors::COCONUTS.to_vec();
+    let mut five = Question::empty();
+    (five.n, five.codes[0], five.constants[0]) = (2, reading::EQUATION, 3);
+    five.coefficients[..2].copy_from_slice(&[5, 1]);
+    let five = reading::bytes_of(&five).expect("a question");
+
+    let count = blocks.len();
+    let mut lines = vec![
+        (format!("{count} list blocks decided"), Work::Decided(blocks.clone())),
+        ("coconuts decided, 49 states".into(), Work::Decided(vec![coconuts.clone(); 100])),
+        (format!("{count} list blocks built"), Work::Built(blocks.clone())),
+        ("coconuts built, 25,090 states".into(), Work::Built(vec![coconuts.clone()])),
+    ];
+    for (a, b) in [(24, 39), (99, 99), (254, 256)] {
+        let family = format!("a x <= 0 and b y <= 0 and 0x <= -1, {} states", grouped((a as usize + 1) * (b as usize + 1)));
+        lines.push((format!("{family}, decided"), Work::Decided(vec![never_accepting(a, b)])));
+        lines.push((format!("{family}, built"), Work::Built(vec![never_accepting(a, b)])));
+    }
+    lines.push((format!("{count} list blocks read"), Work::Read(blocks.clone())));
+    lines.push((format!("{count} list blocks written"), Work::Written(blocks.clone())));
+    lines.push((format!("{count} list blocks judged, their reading included"), Work::Judged(blocks)));
+    for (question, states) in [(five, 9), (coconuts, 25_090), (never_accepting(254, 256), Question::STATES)] {
+        let work = format!("{} letters run, {} rows of {} cells", grouped(LONG), grouped(states), 1 + letters(&question));
+        lines.push((work, Work::Run(question, states)));
+    }
+    lines
+}
+
+/// A number with its thousands apart.
+fn grouped(number: usize) -> String {
+    if number < 1_000 {
+        number.to_string()
+    } else {
+        format!("{},{:03}", grouped(number / 1_000), number % 1_000)
+    }
 }
 
 /// The median and the least of the rounds, in nanoseconds.
@@ -140,7 +248,8 @@ impl Time {
 
 /// The time of each side, which take turns, after a first turn that shows that they answer alike. A turn of short work is made of so many
 /// repeats that it takes some milliseconds.
-fn timed(rounds: usize, sides: &mut [Round]) -> Vec<Time> {
+fn timed(rounds: usize, work: &Work) -> Vec<Time> {
+    let mut sides: Vec<Round> = SIDES.iter().map(|name| work.side(name)).collect();
     let answers: Vec<usize> = sides.iter_mut().map(|side| side()).collect();
     assert!(answers.iter().all(|&answer| answer == answers[0]), "{answers:?}");
     let start = clock::thread();
@@ -159,70 +268,66 @@ fn timed(rounds: usize, sides: &mut [Round]) -> Vec<Time> {
     times.into_iter().map(Time::of).collect()
 }
 
-/// A line of the table: nanoseconds a unit, of which a round has so many.
-fn line(rounds: usize, work: &str, unit: &str, units: usize, mut sides: Vec<Round>) -> Vec<Time> {
-    let times = timed(rounds, &mut sides);
-    let cell = |time: Time| format!("{:.2} ({:.2})", time.median / units as f64, time.least / units as f64);
-    let (proved, ratio) = match times[..] {
-        [plain, proved] => (cell(proved), format!("{:.2} ({:.2})", proved.median / plain.median, proved.least / plain.least)),
-        _ => ("-".into(), "-".into()),
-    };
-    println!("| {work} | {unit} | {proved} | {} | {ratio} |", cell(times[0]));
-    times
+/// The instructions of a round of each side: those of two repeats less those of one, so that starting and making ready do not count.
+fn counted(line: usize) -> Option<Vec<f64>> {
+    let line = line.to_string();
+    let count = |name, repeats| count::instructions(&["repeat", name, &line, repeats]);
+    SIDES.iter().map(|name| Some((count(name, "2")? - count(name, "1")?) as f64)).collect()
 }
 
-/// The transitions of decisions, which do not depend on the solver: those up to the state at which it stops.
-fn transitions(questions: &[Vec<u8>]) -> usize {
-    let rows = Question::STATES;
-    let (mut keys, mut path, mut word) = (vec![0; rows * Question::ATOMS], vec![0; rows * 2], vec![0; rows]);
-    questions.iter().map(|question| plain::decide_counted(question, &mut keys, &mut path, &mut word).1).sum()
-}
-
-/// A number with its thousands apart.
-fn grouped(number: usize) -> String {
-    if number < 1_000 {
-        number.to_string()
-    } else {
-        format!("{},{:03}", grouped(number / 1_000), number % 1_000)
+/// The work of a line for one side, so many times.
+fn repeat(name: &str, line: usize, repeats: usize) {
+    let (_, work) = &lines()[line];
+    let mut round = work.side(name);
+    for _ in 0..repeats {
+        black_box(round());
     }
 }
 
-/// A table built whole, for running.
-fn built(question: &[u8], states: usize) -> Vec<u16> {
-    let held = reading::read(question).expect("a question");
-    let (mut keys, mut table) = (vec![0; states * held.atoms()], vec![0; states * (1 + (1 << held.n))]);
-    assert_eq!(plain::build(question, &mut keys, &mut table), Building::Built { states });
-    table
-}
-
-/// The reading, writing and judging of the list blocks, with values up to the judge's limit.
-fn small_calls(rounds: usize, blocks: &[Vec<u8>]) {
-    let count = blocks.len();
-    line(rounds, &format!("{count} list blocks read"), "question", count, sides!(reading(blocks)));
-    line(rounds, &format!("{count} list blocks written"), "question", count, sides!(writing(blocks)));
-    let mut random = Random::new(1);
-    let mut value = |_| random.next() & Question::VALUE >> random.below(41);
-    let values: Vec<Vec<u64>> = blocks.iter().map(|question| (0..question[4]).map(&mut value).collect()).collect();
-    line(rounds, &format!("{count} list blocks judged, their reading included"), "question", count, sides!(judging(blocks, &values)));
-}
-
-/// A million letters by tables of 9, of 25,090 and of 65,535 rows. Each call checks the whole table first.
-fn long_words(rounds: usize, five: &[u8], largest: &[u8]) {
-    for (n, question, states) in [(2, five, 9), (6, vectors::COCONUTS, 25_090), (2, largest, Question::STATES)] {
-        let cells = built(question, states);
-        let mut random = Random::new(2);
-        let word: Vec<u8> = (0..1_000_000).map(|_| random.below(1 << n) as u8).collect();
-        let work = format!("{} letters run, {} rows of {} cells", grouped(word.len()), grouped(states), 1 + (1 << n));
-        line(rounds, &work, "letter", word.len(), sides!(running(n, &cells, &word)));
+/// Three cells: proved, plain, and the one by the other.
+fn cells<T>(sides: &[T], cell: impl Fn(&T) -> String, ratio: impl Fn(&T, &T) -> String) -> String {
+    match sides {
+        [plain, proved] => format!(" {} | {} | {} |", cell(proved), cell(plain), ratio(proved, plain)),
+        [plain] => format!(" - | {} | - |", cell(plain)),
+        _ => " - | - | - |".into(),
     }
+}
+
+/// Measures every line, prints the table, and hands over the times.
+fn measured(rounds: usize, lines: &[(String, Work)]) -> Vec<Vec<Time>> {
+    println!("Nanoseconds a unit on the processor, the median (the least) of {rounds} rounds.");
+    let counting = count::valgrind();
+    match &counting {
+        Some(version) => println!("Instructions a unit, by callgrind of valgrind {version}."),
+        None => println!("Instructions are not counted: valgrind is not installed."),
+    }
+    let more = |columns| if counting.is_some() { columns } else { "" };
+    println!("\n| work | units | proved ns | plain ns | proved / plain |{}", more(" proved instructions | plain instructions | proved / plain |"));
+    println!("|---|---|---|---|---|{}", more("---|---|---|"));
+    let mut all = Vec::new();
+    for (number, (name, work)) in lines.iter().enumerate() {
+        let (units, unit) = work.units();
+        print!("| {name} | {} {unit} |", grouped(units));
+        let units = units as f64;
+        let pair = |median: f64, least: f64| format!("{median:.2} ({least:.2})");
+        let times = timed(rounds, work);
+        let time = |time: &Time| pair(time.median / units, time.least / units);
+        print!("{}", cells(&times, time, |proved, plain| pair(proved.median / plain.median, proved.least / plain.least)));
+        if counting.is_some() {
+            let counts = counted(number).unwrap_or_default();
+            print!("{}", cells(&counts, |count| format!("{:.1}", count / units), |proved, plain| format!("{:.2}", proved / plain)));
+        }
+        println!();
+        all.push(times);
+    }
+    all
 }
 
 /// The solvers that are installed, on questions that were decided: their verdicts, and the time a question beside the proved and plain time.
 fn other_solvers(rounds: usize, work: &str, questions: &[Vec<u8>], ours: &[Time]) {
     let held: Vec<Question> = questions.iter().map(|question| reading::read(question).expect("a question")).collect();
     let batch = smt::batch(&held);
-    let rows = Question::STATES;
-    let (mut keys, mut path, mut word) = (vec![0; rows * Question::ATOMS], vec![0; rows * 2], vec![0; rows]);
+    let (mut keys, mut path, mut word) = areas();
     let mut verdict = |question: &Vec<u8>| match plain::decide(question, &mut keys, &mut path, &mut word) {
         Decision::Found { .. } => "sat",
         _ => "unsat",
@@ -230,7 +335,7 @@ fn other_solvers(rounds: usize, work: &str, questions: &[Vec<u8>], ours: &[Time]
     let expected: Vec<&str> = questions.iter().map(&mut verdict).collect();
     let thousands = questions.len() as f64 * 1_000.0;
     let per_question = |time: Time| format!("{:.2} ({:.2})", time.median / thousands, time.least / thousands);
-    for (name, time) in ["plain", "proved"].iter().zip(ours) {
+    for (name, time) in SIDES.iter().zip(ours) {
         println!("| {work} | {name} | {} | |", per_question(*time));
     }
     for solver in smt::SOLVERS {
@@ -250,35 +355,25 @@ fn other_solvers(rounds: usize, work: &str, questions: &[Vec<u8>], ours: &[Time]
     }
 }
 
-fn main() {
-    let rounds = std::env::args().nth(1).map_or(15, |rounds| rounds.parse().expect("a number of rounds")).max(1);
-    let blocks: Vec<Vec<u8>> = vectors::blocks().into_iter().map(<[u8]>::to_vec).collect();
-    let coconuts = vec![vectors::COCONUTS.to_vec(); 100];
-    let largest = never_accepting(254, 256);
-    let mut five = Question::empty();
-    (five.n, five.codes[0], five.constants[0]) = (2, reading::EQUATION, 3);
-    five.coefficients[..2].copy_from_slice(&[5, 1]);
-    let five = reading::bytes_of(&five).expect("a question");
-
-    println!("Nanoseconds a unit on the processor, the median (the least) of {rounds} rounds.\n");
-    println!("| work | unit | proved | plain | proved / plain |\n|---|---|---|---|---|");
-    let work = format!("{} list blocks decided", blocks.len());
-    let blocks_times = line(rounds, &work, "transition", transitions(&blocks), sides!(deciding(&blocks)));
-    let coconuts_times = line(rounds, "coconuts decided, 49 states", "transition", transitions(&coconuts), sides!(deciding(&coconuts)));
-    line(rounds, "coconuts built, 25,090 states", "transition", 25_090 * 64, sides!(building(vectors::COCONUTS, 25_090)));
-    for (a, b) in [(24, 39), (99, 99), (254, 256)] {
-        let states = (a as usize + 1) * (b as usize + 1);
-        let question = vec![never_accepting(a, b)];
-        let family = format!("a x <= 0 and b y <= 0 and 0x <= -1, {} states", grouped(states));
-        line(rounds, &format!("{family}, decided"), "transition", states * 4, sides!(deciding(&question)));
-        line(rounds, &format!("{family}, built"), "transition", states * 4, sides!(building(&question[0], states)));
-    }
-    small_calls(rounds, &blocks);
-    long_words(rounds, &five, &largest);
-
-    let ours = if cfg!(feature = "proved") { "proved" } else { "plain" };
+fn measure(rounds: usize) {
+    let lines = lines();
+    let times = measured(rounds, &lines);
     println!("\nMicroseconds a question. Every verdict is as ours. A solver's process stands ready before its time starts.\n");
-    println!("| work | solver | time | times {ours} |\n|---|---|---|---|");
-    other_solvers(rounds, &work, &blocks, &blocks_times);
-    other_solvers(rounds, "coconuts decided", &coconuts, &coconuts_times);
+    println!("| work | solver | time | times {} |\n|---|---|---|---|", SIDES[SIDES.len() - 1]);
+    for ((name, work), times) in lines.iter().zip(&times).take(2) {
+        if let Work::Decided(questions) = work {
+            other_solvers(rounds, name, questions, times);
+        }
+    }
+}
+
+fn main() {
+    let arguments: Vec<String> = env::args().skip(1).collect();
+    let number = |text: &str| text.parse::<usize>().unwrap_or_else(|_| panic!("{text} is no number"));
+    match arguments.iter().map(String::as_str).collect::<Vec<&str>>()[..] {
+        [] => measure(15),
+        [rounds] => measure(number(rounds).max(1)),
+        ["repeat", name, line, repeats] => repeat(name, number(line), number(repeats)),
+        _ => panic!("bench [ROUNDS], or bench repeat SIDE LINE REPEATS"),
+    }
 }

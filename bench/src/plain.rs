@@ -1,5 +1,5 @@
-//! The calls once more, unproved and fast, to measure against. The solver has the algorithm of the proved one: letter sums worked once, key rows
-//! in the lent area, a chained hash index over them, and targets worked in a local row. Safe Rust throughout.
+//! The calls once more, unproved and fast, to measure against. The solver is as one would write it: letter sums worked once, key rows in the lent
+//! area, a chained hash index over them, targets worked in a local row, every letter tried, the formula settled at each new state. Safe Rust throughout.
 
 #![forbid(unsafe_code)]
 
@@ -456,16 +456,15 @@ fn explore_large(machine: &Machine, at: &mut Progress, rows: usize, keys: &mut [
     explore(machine, &mut index, at, rows, keys, Some(path))
 }
 
-/// Decides, and says how many transitions that took.
-pub fn decide_counted(bytes: &[u8], keys: &mut [i32], path: &mut [u16], word: &mut [u8]) -> (Decision, usize) {
+pub fn decide(bytes: &[u8], keys: &mut [i32], path: &mut [u16], word: &mut [u8]) -> Decision {
     let question = match read(bytes) {
         Ok(question) => question,
-        Err(refusal) => return (Decision::Refused(refusal), 0),
+        Err(refusal) => return Decision::Refused(refusal),
     };
     let machine = Machine::new(&question);
     let rows = (keys.len() / machine.m).min(path.len() / 2).min(Question::STATES);
     if rows == 0 {
-        return (Decision::NoRoom { states: 0 }, 0);
+        return Decision::NoRoom { states: 0 };
     }
     let (mut index, mut at) = opened(&machine, keys);
     path[0] = 0;
@@ -475,17 +474,11 @@ pub fn decide_counted(bytes: &[u8], keys: &mut [i32], path: &mut [u16], word: &m
     if stop == Stop::Crowded {
         stop = explore_large(&machine, &mut at, rows, keys, path);
     }
-    let transitions = at.row * machine.letters + at.letter;
-    let decision = match stop {
+    match stop {
         Stop::Closed => Decision::Never { states: at.count },
         Stop::Accepting => walk_back(path, at.count - 1, word),
         _ => Decision::NoRoom { states: rows },
-    };
-    (decision, transitions)
-}
-
-pub fn decide(bytes: &[u8], keys: &mut [i32], path: &mut [u16], word: &mut [u8]) -> Decision {
-    decide_counted(bytes, keys, path, word).0
+    }
 }
 
 /// Writes the word of state w from its end to its front.
