@@ -1,4 +1,4 @@
-"""Writes the tables of crates/scope/specs/Vectors.antt from outside vectors: python3 tools/vectors.py VECTORS
+"""Writes the tables of crates/samples/specs/Vectors.antt from outside vectors: python3 tools/vectors.py VECTORS
 
 VECTORS has one call a line with its outcome. Of each call and outcome (for a refusal: of each number) the lines that
 are the quickest to compute are taken, as many as WANTED says, and of reading and writing the longest one too. The
@@ -6,7 +6,7 @@ questions of the lines that were read or judged are put as trees besides, taken 
 """
 import sys
 
-FILE = "crates/scope/specs/Vectors.antt"
+FILE = "crates/samples/specs/Vectors.antt"
 # what stands in FILE up to this line stays
 MARK = "-- ---- the vectors, as tools/vectors.py writes them\n"
 
@@ -121,7 +121,7 @@ def tree_line(words):
         return f"    line (asks {n} {t}) (tree true {octets(words[1])}) ∷"
     if call == "judge" and said in ("yes", "no"):
         n, t = question_tree(words[1])
-        return f"    line (says {t} {joined(naturals(words[2]))}) (holding {'true' if said == 'yes' else 'false'}) ∷"
+        return f"    line (saysTree {t} {joined(naturals(words[2]))}) (holding {'true' if said == 'yes' else 'false'}) ∷"
     return None
 
 
@@ -162,4 +162,4 @@ if __name__ == "__main__":
         out.write(head + MARK)
         for call, lines in by_call.items():
             out.write(f"\nabbrev {call}Vectors : List Line\n{call}Vectors =\n" + "\n".join(lines) + "\n    []\n")
-            out.write(f"\npub {call}-vectors-hold : given {call}Vectors ≡ wanted {call}Vectors\nunfolding running\n{call}-vectors-hold = refl\n")
+            out.write(f"\npub {call}-vectors-hold : allGiven {call}Vectors ≡ wanted {call}Vectors\nunfolding running\n{call}-vectors-hold = refl\n")

@@ -6,7 +6,7 @@ use mathlib.Core.List.{List}
 use lib.ListN.{length, take}
 use base.Fml.{Lft}
 use denote.Ref.{RefT, now}
-use Rattle.theory.specs.Octets.{Octets}
+use Rattle.theory.specs.Wire.Octets.{Octets}
 use Rattle.told.specs.Text.{ascii}
 use Rattle.ask.specs.Asked.{asked}
 use Rattle.ask.specs.Printed.{Begins, NeverPrinted, never-printed}

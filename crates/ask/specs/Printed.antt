@@ -12,12 +12,12 @@ use Rattle.scope.specs.Words.{Word}
 use Rattle.scope.specs.Tree.{trueFor, IsQuestion}
 use Rattle.scope.specs.Numbering.{machineOf}
 use Rattle.scope.specs.Deciding.{decideRoom, Decided}
-use Rattle.theory.specs.Octets.{Octets}
-use Rattle.theory.specs.TreeParsed.{question-read}
-use Rattle.theory.specs.Reachable.{AtMost}
-use Rattle.theory.specs.Deciding.{NoneSatisfies, FirstSatisfying}
-use Rattle.theory.specs.Decided.{RowFound, NoRoomAt, refused-unchanged, says-not-refused}
-use Rattle.theory.specs.Questions.{heldIn, Read, a-question, refused-by, either-way, Guarded, never-guarded, found-exactly, no-room-exactly, found-hands-over}
+use Rattle.theory.specs.Wire.Octets.{Octets}
+use Rattle.theory.specs.Trees.Parsed.{question-read}
+use Rattle.theory.specs.Machine.Reachable.{AtMost}
+use Rattle.theory.specs.Calls.Deciding.{NoneSatisfies, FirstSatisfying}
+use Rattle.theory.specs.Calls.Decided.{RowFound, NoRoomAt, decide-refused-unchanged, decide-says-not-refused}
+use Rattle.theory.specs.Calls.Questions.{heldIn, Read, a-question, refused-by, either-way, Guarded, never-guarded, found-exactly, no-room-exactly, found-hands-over}
 use Rattle.told.specs.Text.{ascii, foundText, shortText, neverText, noRoomText, refusedText, textOf}
 use Rattle.ask.specs.Asked.{variables, keyArea, pathArea, wordArea, decidedFor, asked}
 use Rattle.ask.specs.Room.{room, never-short}
@@ -189,10 +189,10 @@ module _ (bytes : List ℕ) where
         said : Begins refusedWord (textOf (variables bytes) (d .answer) (d .word)) → ¬ IsQuestion bytes
         said e q =
             let a = is-refused (variables bytes) (d .word) (d .answer) e in
-            says-not-refused bytes keyArea pathArea wordArea (heldIn q) (question-read bytes q) (a .0) (a .1)
+            decide-says-not-refused bytes keyArea pathArea wordArea (heldIn q) (question-read bytes q) (a .0) (a .1)
 
         back : ¬ IsQuestion bytes → Read bytes → Begins refusedWord (textOf (variables bytes) (d .answer) (d .word))
         back n (a-question q) = absurd (n q)
         back n (refused-by ρ e) =
-            let a = ap (λ (d : Decided). d .answer) (refused-unchanged bytes keyArea pathArea wordArea ρ e) in
+            let a = ap (λ (d : Decided). d .answer) (decide-refused-unchanged bytes keyArea pathArea wordArea ρ e) in
             subst (λ (x : DecideAnswer). Begins refusedWord (textOf (variables bytes) x (d .word))) (sym a) (says-refused (variables bytes) (d .word) ρ)

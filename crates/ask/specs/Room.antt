@@ -21,10 +21,10 @@ use Rattle.scope.specs.Question.{atomCount}
 use Rattle.scope.specs.Wire.{readHeld}
 use Rattle.scope.specs.Words.{Word, Over, over-[], over-∷, lettersFit, spelled}
 use Rattle.scope.specs.Deciding.{Decided, decideRoom, decided}
-use Rattle.theory.specs.Accepted.{WithinLimits, accepted-within}
-use Rattle.theory.specs.Answers.{atom-count}
-use Rattle.theory.specs.Decided.{letters-fewer, refused-unchanged, says-found, says-short, found-hands-over}
-use Rattle.theory.specs.Lengths.{decided-word-length}
+use Rattle.theory.specs.Wire.Accepted.{WithinLimits, accepted-within}
+use Rattle.theory.specs.Wire.Answers.{atom-count}
+use Rattle.theory.specs.Calls.Decided.{letters-fewer, decide-refused-unchanged, says-found, says-short, held-found-hands-over}
+use Rattle.theory.specs.Calls.Lengths.{decided-word-length}
 use Rattle.told.specs.Text.{ascii, numbers, valuesSaid}
 use Rattle.told.specs.Told.{values-spelled, values-long}
 use Rattle.ask.specs.Asked.{variables, keyArea, pathArea, wordArea, decidedFor}
@@ -63,7 +63,7 @@ never-short bytes states k e = go (readHeld bytes .answer) refl
         let s = says-short bytes keyArea pathArea wordArea (readHeld bytes .question) (is-held bytes h) states k .0 e in
         omega (arith, s .1, s .0 .states-are, s .0 .found-at .room, letters-fewer (s .0), room bytes h, length-replicate {A = ℕ} 1024 0)
     go (ReadAnswer.Refused r) h =
-        no-short (sym (ap (λ (d : Decided). d .answer) (refused-unchanged bytes keyArea pathArea wordArea r h)) ∙ e)
+        no-short (sym (ap (λ (d : Decided). d .answer) (decide-refused-unchanged bytes keyArea pathArea wordArea r h)) ∙ e)
 
 -- ---- the values of a found word: up to 64 letters they are told, above them they are long
 
@@ -76,7 +76,7 @@ module _ (bytes : List ℕ) (states k : ℕ) (accepted : readHeld bytes .answer 
   letters-fit : lettersFit (variables bytes) (take k (decidedFor bytes .word)) ≡ true
   unfolding decidedFor variables
   letters-fit =
-      over-fits (found-hands-over bytes keyArea pathArea wordArea (readHeld bytes .question) (is-held bytes accepted) states k found .first .over)
+      over-fits (held-found-hands-over bytes keyArea pathArea wordArea (readHeld bytes .question) (is-held bytes accepted) states k found .first .over)
 
   variables-fit : variablesFit (variables bytes) ≡ true
   unfolding variables

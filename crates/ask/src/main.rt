@@ -31,7 +31,7 @@ fn answer_to(question: &[u8], out: &mut [u8]) -> usize
     let mut path = [0u16; PATH];
     let mut word = [0u8; WORD];
     let answer = decide::decide(question, &mut keys, &mut path, &mut word);
-    let held = wire::read(question);
+    let held = reading::read(question);
     let question = held.question;
     told::tell(question.n as usize, answer, &word, out)
 }

@@ -20,28 +20,28 @@ use Rattle.scope.specs.Question.{atomsOf, atomCount}
 use Rattle.scope.specs.States.{State, cellsOf, startOf}
 use Rattle.scope.specs.Numbering.{Machine, Rows, machineOf, numbered}
 use Rattle.scope.specs.Deciding.{noRoom, keyCells}
-use Rattle.scope.specs.Sizes.{mostStates}
+use Rattle.scope.specs.Sizes.{mostStates, mostAtoms, mostLetters}
 use Rattle.scope.specs.Building.{buildRoom, Built, builtIf, builtQuestion, built}
-use Rattle.theory.specs.Lawful.{machine-lawful}
-use Rattle.theory.specs.Table.{numbered-rooted}
-use Rattle.theory.specs.Exploring.{no-rows-more}
-use Rattle.theory.specs.Joined.{atFront-cells, atFront-length}
-use Rattle.theory.specs.Simulation.{Simulates, rowsMap, numbered-maps, states-map, same-length, same-counted, same-table}
-use Rattle.theory.specs.Lengths.{keys-length, build-room-keys, build-room-table}
-use Rattle.theory.specs.Deciding.{rowsOf}
-use Rattle.theory.specs.Built.{builtOf, without-room}
+use Rattle.theory.specs.Machine.Lawful.{machine-lawful}
+use Rattle.theory.specs.Machine.Table.{numbered-rooted}
+use Rattle.theory.specs.Machine.Exploring.{no-rows-more}
+use Rattle.theory.specs.Numbers.Joined.{atFront-cells, atFront-length}
+use Rattle.theory.specs.Machine.Simulation.{Simulates, rowsMap, numbered-maps, states-map, same-length, same-counted, same-table}
+use Rattle.theory.specs.Calls.Lengths.{keys-length, build-room-keys, build-room-table}
+use Rattle.theory.specs.Calls.Deciding.{rowsOf}
+use Rattle.theory.specs.Calls.Built.{builtOf, without-room}
 use Rattle.index.specs.Rows.{stored-at-front}
-use Rattle.theory.specs.Answers.{atom-count}
-use Rattle.theory.specs.Accepted.{WithinLimits, accepted-within}
+use Rattle.theory.specs.Wire.Answers.{atom-count}
+use Rattle.theory.specs.Wire.Accepted.{WithinLimits, accepted-within}
 use Rattle.step.specs.declared.Kinds.{Kinds}
 use Rattle.step.specs.Eight.{padded}
 use Rattle.step.specs.Cells.{kindCodes, Coefficients, Sums}
 use Rattle.step.specs.Atoms.{few-atoms, kinds-count, coefficients-fit}
 use Rattle.step.specs.Laws.{start-cells}
-use Rattle.explore.specs.declared.Plan.{Plan}
-use Rattle.explore.specs.Machine.{machine}
+use Rattle.plan.specs.declared.Plan.{Plan}
+use Rattle.plan.specs.Machine.{machine}
+use Rattle.plan.specs.Simulated.{Planned, PlanAsked, PlanMade, simulates, question-task, start-fits}
 use Rattle.explore.specs.Areas.{rowCells, front-twice}
-use Rattle.explore.specs.Simulated.{Planned, PlanAsked, PlanMade, simulates, question-task, start-fits}
 use Rattle.build.specs.Builds.{Builds, filledIf, filled}
 use Rattle.build.specs.Filling.{Filling, path-fits}
 
@@ -77,7 +77,7 @@ module _ (q : Question) {M : Machine (List ℤ)} {Good : State → Type 0} (same
 
 -- ---- an accepted question, its atoms, and the rows lent
 
-pub record Lends (q : Question) (atoms : Kinds) (rows : ℕ) (keys : List ℤ) (table : List ℕ) : Type 0 where
+pub record BuildLends (q : Question) (atoms : Kinds) (rows : ℕ) (keys : List ℤ) (table : List ℕ) : Type 0 where
   pub limits : WithinLimits q
   pub kinds-are : atoms .kinds ≡ padded 0 (kindCodes (q .codes))
   pub count : atoms .m ≡ length (kindCodes (q .codes))
@@ -92,14 +92,14 @@ pub room-is : (q : Question) (m letters rows : ℕ) (keys : List ℤ) (table : L
 unfolding buildRoom
 room-is q m letters rows keys table e f g = g ∙ rw (e, kinds-count q, f)
 
-room-low : (q : Question) (keys : List ℤ) (table : List ℕ) → buildRoom q keys table ≤ 65535
+room-low : (q : Question) (keys : List ℤ) (table : List ℕ) → buildRoom q keys table ≤ mostStates
 unfolding buildRoom
 room-low q keys table = omega arith
 
 rows-fit : (rows w size : ℕ) → rows ≤ size / w → rows * w ≤ size
 rows-fit rows w size h = omega (arith, mul-le-mul-right w h, div-mul-le-self size w)
 
-module _ {q : Question} {atoms : Kinds} {rows : ℕ} {keys : List ℤ} {table : List ℕ} (l : Lends q atoms rows keys table) where
+module _ {q : Question} {atoms : Kinds} {rows : ℕ} {keys : List ℤ} {table : List ℕ} (l : BuildLends q atoms rows keys table) where
   atoms-are : atoms .m ≡ atomCount q
   atoms-are = l .count ∙ kinds-count q
 
@@ -107,7 +107,7 @@ module _ {q : Question} {atoms : Kinds} {rows : ℕ} {keys : List ℤ} {table : 
   pub asks-sums : Coefficients (q .n) (atoms .m) (q .coefficients)
   asks-sums = rw atoms-are (coefficients-fit (l .limits))
 
-  pub asks-plan : {sums : List ℤ} → Sums (q .n) (atoms .m) (q .coefficients) sums → length sums ≡ 512 → PlanAsked q atoms sums
+  pub asks-plan : {sums : List ℤ} → Sums (q .n) (atoms .m) (q .coefficients) sums → length sums ≡ (mostAtoms * mostLetters) → PlanAsked q atoms sums
   asks-plan sums-are whole = record { limits = l .limits; kinds-are = l .kinds-are; count = atoms-are; sums-are = sums-are; whole = whole }
 
   -- ---- the plan
@@ -122,7 +122,7 @@ module _ {q : Question} {atoms : Kinds} {rows : ℕ} {keys : List ℤ} {table : 
     lent-rows : plan .rows ≡ buildRoom q keys table
     lent-rows = made .rows-are ∙ l .rows-are
 
-    few-cells : plan .width ≤ 8
+    few-cells : plan .width ≤ mostAtoms
     few-cells = rw width (few-atoms (l .limits))
 
     keys-room : plan .rows * plan .width ≤ length keys
@@ -140,7 +140,7 @@ module _ {q : Question} {atoms : Kinds} {rows : ℕ} {keys : List ℤ} {table : 
     one-row = let e : 1 * plan .width ≤ plan .rows * plan .width = mul-le-mul-right (plan .width) some-rows in omega (arith, keys-room)
 
     -- what storing the start asks
-    pub asks-start : (plan .width ≤ 8) × (plan .width ≤ length (q .constants)) × (0 * plan .width + plan .width ≤ length keys)
+    pub asks-start : (plan .width ≤ mostAtoms) × (plan .width ≤ length (q .constants)) × (0 * plan .width + plan .width ≤ length keys)
     asks-start = (few-cells, rw (l .limits .sized .constants) few-cells, rw (zero-mul, zero-add) one-row)
 
     start-are : take (plan .width) (q .constants) ≡ cellsOf (startOf (atomsOf q))

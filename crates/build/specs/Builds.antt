@@ -15,19 +15,19 @@ use Rattle.scope.specs.Whole.{atFront}
 use Rattle.scope.specs.Numbering.{Machine, Row, Rows, startRow, numbered}
 use Rattle.scope.specs.Deciding.{Verdict, verdictBy, counted}
 use Rattle.scope.specs.Building.{tableCells, Built}
-use Rattle.theory.specs.Prefix.{prefix-length, numbered-prefix-le, numbered-stays-le}
-use Rattle.theory.specs.Table.{numbered-rooted}
-use Rattle.theory.specs.Exploring.{partial-zero}
-use Rattle.theory.specs.Simulation.{AllGood, good-at}
-use Rattle.theory.specs.Joined.{joined-length, atFront-cells, atFront-length}
-use Rattle.explore.specs.declared.Plan.{Plan}
-use Rattle.explore.specs.declared.Explored.{Explored}
-use Rattle.explore.specs.Machine.{machine, KeyRow, Task, Runs, machine-runs}
+use Rattle.theory.specs.Machine.Prefix.{prefix-length, numbered-prefix-le, numbered-stays-le}
+use Rattle.theory.specs.Machine.Table.{numbered-rooted}
+use Rattle.theory.specs.Machine.Exploring.{partial-zero}
+use Rattle.theory.specs.Machine.Simulation.{AllGood, good-at}
+use Rattle.theory.specs.Numbers.Joined.{joined-length, atFront-cells, atFront-length}
+use Rattle.plan.specs.declared.Plan.{Plan}
+use Rattle.plan.specs.declared.Explored.{Explored}
+use Rattle.plan.specs.Machine.{machine, KeyRow, Task, Runs, machine-runs}
 use Rattle.explore.specs.Areas.{rowCells}
 use Rattle.explore.specs.Outcome.{outcome, exploredAs, Ready, Numbered}
 use Rattle.explore.specs.Stages.{start-stands}
-use Rattle.build.specs.Tabling.{AllThere, Tabling, state-is}
-use Rattle.build.specs.Table.{tableAfter}
+use Rattle.table.specs.Tabling.{AllThere, Tabling, state-is}
+use Rattle.table.specs.Table.{tableAfter}
 
 pub record Builds (b : Built) (answer₁ : BuildAnswer) (keys₁ : List ℤ) (table₁ : List ℕ) : Type 0 where
   pub answer : answer₁ ≡ b .answer

@@ -11,16 +11,17 @@ use lib.Seq.{getD-take}
 use lib.IntN.{ℤ, pos}
 use Rattle.scope.specs.declared.BuildAnswer.{BuildAnswer}
 use Rattle.scope.specs.Numbering.{Machine}
-use Rattle.explore.specs.declared.Plan.{Plan}
-use Rattle.explore.specs.declared.Stand.{Stand}
-use Rattle.explore.specs.Machine.{machine, Task, Runs, machine-runs}
+use Rattle.plan.specs.declared.Plan.{Plan}
+use Rattle.plan.specs.declared.Stand.{Stand}
+use Rattle.plan.specs.Machine.{machine, Task, Runs, machine-runs}
+use Rattle.plan.specs.Moves.{withRows, goingAt, exploredBy}
 use Rattle.explore.specs.Areas.{pathCount}
-use Rattle.explore.specs.Standing.{Lent, Stands, Ended, withRows, goingAt}
-use Rattle.explore.specs.Outcome.{Ready, Numbered, exploredBy}
+use Rattle.explore.specs.Standing.{Lent, Stands, ExploringEnded}
+use Rattle.explore.specs.Outcome.{Ready, Numbered}
 use Rattle.explore.specs.Stages.{fewer-task, fewer-lent, start-stands, more-stands, stopped-full, ended-after}
 use Rattle.explore.specs.Ends.{ended-numbered}
-use Rattle.build.specs.Tabling.{Tabling}
-use Rattle.build.specs.Table.{tableAfter}
+use Rattle.table.specs.Tabling.{Tabling}
+use Rattle.table.specs.Table.{tableAfter}
 use Rattle.build.specs.Builds.{Builds, filled, AllRows, building-finds-none, all-rows, no-room, table-fits, tabling, all-built}
 
 -- what is handed over, with room for the plan's rows. Building has no path area, and tests no state
@@ -33,12 +34,12 @@ pub record Filling (plan : Plan) (sums keys : List ℤ) (path table : List ℕ) 
 
 -- numbering has ended, and the table is as it was where it has stopped, and else written
 pub record FilledFrom (plan : Plan) (sums : List ℤ) (count₀ : ℕ) (keys₀ : List ℤ) (path₀ table₀ : List ℕ) (keys : List ℤ) (path table : List ℕ) (s : Stand) : Type 0 where
-  pub ended : Ended (machine plan sums keys₀) plan count₀ keys₀ path₀ keys path s
+  pub ended : ExploringEnded (machine plan sums keys₀) plan count₀ keys₀ path₀ keys path s
   pub table-is : table ≡ cond (s .stopped) table₀ (tableAfter plan sums keys (s .count) table₀)
 
-abbrev pub answerBy : Bool → ℕ → BuildAnswer
-answerBy true count = BuildAnswer.NoRoom count
-answerBy false count = BuildAnswer.Built count
+abbrev pub builtAnswer : Bool → ℕ → BuildAnswer
+builtAnswer true count = BuildAnswer.NoRoom count
+builtAnswer false count = BuildAnswer.Built count
 
 -- where nothing is noted, any path area has room
 pub path-fits : {noting : Bool} → noting ≡ false → (rows : ℕ) (path : List ℕ) → pathCount noting rows ≤ length path
@@ -79,12 +80,12 @@ module _ {plan : Plan} {sums keys : List ℤ} {path table : List ℕ} (f : Filli
 
   -- numbering has ended with so few of the rows, and for want of rows only where they are all
   ended-by : {few count₀ : ℕ} {keys₁ : List ℤ} {path₁ : List ℕ} {s : Stand} → few ≤ plan .rows → length keys₁ ≡ length keys
-      → Ended M (withRows plan few) count₀ keys path keys₁ path₁ s → (s .stopped ≡ true → s .accepted ≡ false → few ≡ plan .rows)
+      → ExploringEnded M (withRows plan few) count₀ keys path keys₁ path₁ s → (s .stopped ≡ true → s .accepted ≡ false → few ≡ plan .rows)
       → Numbered M plan keys path keys₁ path₁ (exploredBy (s .stopped) (s .accepted) s)
   ended-by less same e whole = ended-numbered M (run .lawful) plan keys path (lent-after same) less e whole
 
   -- where every state has a row, the table can be written
-  module _ {count₀ : ℕ} {keys₁ : List ℤ} {path₁ : List ℕ} {s : Stand} (e : Ended (machine plan sums keys) plan count₀ keys path keys₁ path₁ s)
+  module _ {count₀ : ℕ} {keys₁ : List ℤ} {path₁ : List ℕ} {s : Stand} (e : ExploringEnded (machine plan sums keys) plan count₀ keys path keys₁ path₁ s)
       (same : length keys₁ ≡ length keys) (going : s .stopped ≡ false) where
     all : AllRows M (plan .rows) keys keys₁ (s .count)
     all =
@@ -99,7 +100,7 @@ module _ {plan : Plan} {sums keys : List ℤ} {path table : List ℕ} (f : Filli
 
   -- the whole, by how numbering ended
   written : (b c : Bool) (s : Stand) {keys₁ : List ℤ} {path₁ table₁ : List ℕ} → Numbered M plan keys path keys₁ path₁ (exploredBy b c s)
-      → table₁ ≡ cond b table (tableAfter plan sums keys₁ (s .count) table) → Builds (filled M (plan .rows) keys table) (answerBy b (s .count)) keys₁ table₁
+      → table₁ ≡ cond b table (tableAfter plan sums keys₁ (s .count) table) → Builds (filled M (plan .rows) keys table) (builtAnswer b (s .count)) keys₁ table₁
   written false c s n t = all-built (f .task) (f .ready) (all-rows (f .tests-none) n) table t
   written true true s n t = absurd (building-finds-none (f .tests-none) n)
   written true false s n t = rw t (no-room (f .tests-none) table n)
@@ -126,7 +127,7 @@ module _ {plan : Plan} {sums keys : List ℤ} {path table : List ℕ} (f : Filli
         (same : length keys₁ ≡ length keys) where
       -- they are enough
       pub few-built : (s .stopped ≡ true → s .accepted ≡ false → plan .rows ≤ few)
-          → Builds (filled (machine plan sums keys) (plan .rows) keys table) (answerBy (s .stopped) (s .count)) keys₁ table₁
+          → Builds (filled (machine plan sums keys) (plan .rows) keys table) (builtAnswer (s .stopped) (s .count)) keys₁ table₁
       few-built enough =
           written (s .stopped) (s .accepted) s (ended-by less same (e .ended) (λ p q. let h = enough p q in omega (arith, h))) (e .table-is)
 
@@ -165,7 +166,7 @@ module _ {plan : Plan} {sums keys : List ℤ} {path table : List ℕ} (f : Filli
         many-stands = rw same-start (more-stands less (lent-after same) full)
 
         pub many-built : {keys₂ : List ℤ} {path₂ table₂ : List ℕ} {t : Stand} → FilledFrom plan sums (s .count) keys₁ path₁ table₁ keys₂ path₂ table₂ t
-            → length keys₂ ≡ length keys₁ → Builds (filled (machine plan sums keys) (plan .rows) keys table) (answerBy (t .stopped) (t .count)) keys₂ table₂
+            → length keys₂ ≡ length keys₁ → Builds (filled (machine plan sums keys) (plan .rows) keys table) (builtAnswer (t .stopped) (t .count)) keys₂ table₂
         many-built {t = t} g kept =
             written (t .stopped) (t .accepted) t
             (ended-by (le-refl (plan .rows)) (kept ∙ same) (ended-after plan (e .ended) (rw same-start at (g .ended))) (λ _ _. refl))

@@ -1,15 +1,13 @@
 // Building a question's table: its states are numbered first, then every row of the table is written from the key rows.
-use explore::FEW;
-use explore::MANY;
-use explore::Plan;
-use explore::Stand;
-use explore::least;
-use explore::plan_of;
 use explore::resume;
 use index::NONE;
-use index::find;
-use index::load_row;
 use index::store_row;
+use plan::FEW;
+use plan::MANY;
+use plan::Plan;
+use plan::Stand;
+use plan::least;
+use plan::plan_of;
 use scope::BuildAnswer;
 use scope::Question;
 use scope::ReadAnswer;
@@ -18,101 +16,20 @@ use step::Kinds;
 use step::SUMS;
 use step::kinds_of;
 use step::letter_sums;
-use step::step_row;
+use table::write_rows;
 ghost use mathlib.Core.Path.{_≡_};
-ghost use mathlib.Core.Bool.{cond, false};
+ghost use mathlib.Core.Bool.{false};
 ghost use mathlib.Core.List.{[]};
-ghost use Prim.Native.Nat.{_+_, _*_, _/_, _≤_, _<_, min};
-ghost use lib.ListN.{length};
+ghost use Prim.Native.Nat.{_/_, _≤_, _<_, min};
 ghost use Rattle.scope.specs.Sizes.{mostStates};
 ghost use Rattle.scope.specs.Building.{builtQuestion, built};
-ghost use Rattle.theory.specs.Accepted.{WithinLimits};
-ghost use Rattle.step.specs.Cells.{stepCells};
-ghost use Rattle.index.specs.Index.{Indexed, Finds};
-ghost use Rattle.explore.specs.Machine.{machine};
-ghost use Rattle.explore.specs.Standing.{Linked, Stands, goingAt};
-ghost use Rattle.explore.specs.Loaded.{Steps};
-ghost use Rattle.build.specs.Tabling.{Tabling};
-ghost use Rattle.build.specs.Row.{rowOf};
-ghost use Rattle.build.specs.Table.{tableAfter};
+ghost use Rattle.theory.specs.Wire.Accepted.{WithinLimits};
+ghost use Rattle.plan.specs.Machine.{machine};
+ghost use Rattle.plan.specs.Moves.{goingAt};
+ghost use Rattle.explore.specs.Standing.{Linked, Stands};
 ghost use Rattle.build.specs.Builds.{Builds, filled};
-ghost use Rattle.build.specs.Filling.{Filling, FilledFrom, answerBy};
-ghost use Rattle.build.specs.Asked.{Lends};
-
-// The row that has the cells to which a letter leads from a row, whose cells are handed over.
-fn next_state(
-    plan: Plan,
-    sums: &[i32; SUMS],
-    letter: usize,
-    keys: &[i32],
-    links: &[u16],
-    count: usize,
-    row: [i32; Question::ATOMS],
-) -> u16
-    requires { ⌜ Indexed (now keys) (plan .width) (now links) count ⌝ }
-    requires { ⌜ Steps plan (now sums) letter row ⌝ }
-    ensures { λ r. ⌜ Finds (now (keys .entry)) (plan .width) (stepCells (plan .kinds) 8 (now (sums .entry)) letter row) count r ⌝ }
-{
-    let kinds = plan.kinds;
-    let key = step_row(kinds, sums, letter, row);
-    find(keys, plan.width, &key, links, count) as u16
-}
-
-// The first cell of a row.
-fn mark(accepting: bool) -> u16
-    ensures { λ r. ⌜ r ≡ cond accepting 1 0 ⌝ }
-{
-    if accepting { 1 } else { 0 }
-}
-
-// Writes a row of the table: 1 if the key row accepts else 0, then the next state for each letter in order. The key row is loaded once for
-// them.
-fn write_row(
-    part: &mut [u16],
-    plan: Plan,
-    sums: &[i32; SUMS],
-    keys: &[i32],
-    links: &[u16],
-    count: usize,
-    row: usize,
-)
-    requires { ⌜ Tabling plan (now sums) (now keys) count ⌝ }
-    requires { ⌜ Indexed (now keys) (plan .width) (now links) count ⌝ }
-    requires { ⌜ (row < count) × (length (now part) ≡ 1 + plan .letters) ⌝ }
-    ensures { λ _. ⌜ now (part .exit) ≡ rowOf plan (now (sums .entry)) (now (keys .entry)) count row ⌝ }
-{
-    let from = load_row(keys, plan.width, row);
-    part[0] = mark(plan.accepts(from));
-    let mut letter = 0;
-    while letter < plan.letters {
-        part[1 + letter] = next_state(plan, sums, letter, keys, links, count, from);
-        letter += 1;
-    }
-}
-
-// Writes every row of the table at its front, each in the part that is lent for it.
-fn write_rows(
-    table: &mut [u16],
-    plan: Plan,
-    sums: &[i32; SUMS],
-    keys: &[i32],
-    links: &[u16],
-    count: usize,
-)
-    requires { ⌜ Tabling plan (now sums) (now keys) count ⌝ }
-    requires { ⌜ Indexed (now keys) (plan .width) (now links) count ⌝ }
-    requires { ⌜ count * (1 + plan .letters) ≤ length (now table) ⌝ }
-    ensures { λ _. ⌜ now (table .exit) ≡ tableAfter plan (now (sums .entry)) (now (keys .entry)) count (now (table .entry)) ⌝ }
-{
-    let width = 1 + plan.letters;
-    let mut row = 0;
-    while row < count {
-        let at = row * width;
-        let end = at + width;
-        write_row(&mut table[at..end], plan, sums, keys, links, count, row);
-        row += 1;
-    }
-}
+ghost use Rattle.build.specs.Filling.{Filling, FilledFrom, builtAnswer};
+ghost use Rattle.build.specs.Asked.{BuildLends};
 
 // Numbers the states from where it stands, with an index that has no row yet. If each state has a row then, it writes the table from the same
 // index.
@@ -190,7 +107,7 @@ fn fill_many(
 
 // The answer, once the table is written or no row is left.
 fn answer(s: Stand) -> BuildAnswer
-    ensures { λ r. ⌜ r ≡ answerBy (s .stopped) (s .count) ⌝ }
+    ensures { λ r. ⌜ r ≡ builtAnswer (s .stopped) (s .count) ⌝ }
 {
     let states = s.count;
     if s.stopped {
@@ -231,7 +148,7 @@ fn build_rows(
     keys: &mut [i32],
     table: &mut [u16],
 ) -> BuildAnswer
-    requires { ⌜ Lends question atoms rows (now keys) (now table) ⌝ }
+    requires { ⌜ BuildLends question atoms rows (now keys) (now table) ⌝ }
     ensures { λ r. ⌜ Builds (builtQuestion question (now (keys .entry)) (now (table .entry))) r (now (keys .exit)) (now (table .exit)) ⌝ }
 {
     let coefficients = question.coefficients;
@@ -261,7 +178,7 @@ fn build_question(question: Question, keys: &mut [i32], table: &mut [u16]) -> Bu
 pub fn build(bytes: &[u8], keys: &mut [i32], table: &mut [u16]) -> BuildAnswer
     ensures { λ r. ⌜ Builds (built (now (bytes .entry)) (now (keys .entry)) (now (table .entry))) r (now (keys .exit)) (now (table .exit)) ⌝ }
 {
-    let held = wire::read(bytes);
+    let held = reading::read(bytes);
     let answer = held.answer;
     if let ReadAnswer::Refused(refusal) = answer {
         return BuildAnswer::Refused(refusal);

@@ -1,142 +1,136 @@
-// Building in lent rows, and what it must make in fewer.
-use crate::cells::look_table;
-use crate::made::Made;
-use crate::made::made_of;
-use crate::made::refused;
-use crate::ordered::last_letter;
-use crate::rows::Looked;
-use compared::CELL_MARK;
-use compared::KEY_MARK;
-use compared::cells_filled;
-use compared::cells_of;
-use compared::numbers_filled;
-use scope::Question;
+// Building beside what deciding told, row by row, and again in fewer rows.
+use crate::running::LONG_WORDS;
+use crate::running::SHORT_WORDS;
+use crate::running::run_long;
+use crate::running::run_short;
+use crate::running::run_word;
+use crate::tally::where_right;
+use compared::asked::BUILT;
+use compared::asked::FOUND;
+use compared::asked::NEVER;
+use compared::asked::NO_ROOM;
+use compared::asked::Told;
+use compared::asked::built;
+use compared::asked::built_in;
+use compared::asked::same_told;
+use compared::asked::tell;
+use compared::buffers::CELL_MARK;
+use compared::buffers::KEY_MARK;
+use compared::buffers::cells_of;
+use compared::buffers::first_cells;
+use compared::buffers::front_cells;
+use compared::buffers::front_keys;
+use search::bound::bound_of;
+use search::cells::look_table;
+use search::edges::KEYS;
+use search::edges::ROWS;
+use search::edges::TABLE;
+use search::plain::plus;
+use search::sheet::SHEET;
+use search::sheet::atoms;
+use search::sheet::letters;
 
-// The rows lent.
-pub const ROWS: usize = 600;
-
-const KEYS: usize = Question::ATOMS * ROWS;
-
-const PATH: usize = 2 * ROWS;
-
-pub const TABLE: usize = (1 + Question::LETTERS) * ROWS;
-
-pub struct Formed {
-    pub made: Made,
-    pub looked: Looked,
-}
-
-// The first cells of a table; none where there are not so many.
-pub fn front<'a>(table: &'a [u16], cells: usize) -> &'a [u16] {
-    if cells <= table.len() {
-        &table[0..cells]
-    } else {
-        &table[..0]
-    }
-}
+const LENT: u64 = ROWS as u64;
 
 // The cells of a table's row.
-pub fn width_of(n: usize) -> usize {
-    let last = last_letter(n) as usize;
-    last + 2
+fn width_of(q: &[u64; SHEET]) -> usize {
+    letters(q) as usize + 1
 }
 
-// Whether exactly the rows of the answer's states are filled, those of the table only where it was built.
-fn filled(made: Made, keys: &[i32], m: usize, table: &[u16], width: usize) -> bool {
-    let states = made.states;
-    let cells = if made.built {
-        cells_of(states, width)
-    } else {
-        0
-    };
-    numbers_filled(keys, cells_of(states, m), KEY_MARK) && cells_filled(table, cells, CELL_MARK)
+// What building makes in so many rows of a marked table.
+fn made_in(q: &[u64; SHEET], bytes: &[u8], rows: usize, table: &mut [u16]) -> Told {
+    built_in(bytes, atoms(q), width_of(q), rows, table)
 }
 
-// Builds in so many rows of marked areas; made as refused where other rows than those of the states are filled.
-fn build_at(
-    bytes: &[u8],
-    m: usize,
-    width: usize,
-    rows: usize,
-    keys: &mut [i32],
-    table: &mut [u16],
-) -> Made {
-    let entries = cells_of(rows, m);
-    let cells = cells_of(rows, width);
-    if keys.len() < entries {
-        return refused();
-    }
-    if table.len() < cells {
-        return refused();
-    }
-    let answer = build::build(bytes, &mut keys[0..entries], &mut table[0..cells]);
-    let made = made_of(answer);
-    if filled(made, keys, m, table, width) {
-        return made;
-    }
-    refused()
+fn made_by(q: &[u64; SHEET], bytes: &[u8], rows: usize) -> Told {
+    let mut table = [CELL_MARK; TABLE];
+    made_in(q, bytes, rows, &mut table)
 }
 
-fn look_at(
-    codes: &[u8],
-    sides: &[u64],
-    bytes: &[u8],
-    m: usize,
-    width: usize,
-    keys: &mut [i32],
-    path: &mut [u16],
-    table: &mut [u16],
-) -> Formed {
-    let made = build_at(bytes, m, width, ROWS, keys, table);
-    let states = made.states;
-    if !made.built {
-        return Formed {
-            made,
-            looked: Looked {
-                rows: 0,
-                same: true,
-            },
-        };
-    }
-    let cells = front(table, cells_of(states, width));
-    let looked = look_table(codes, sides, keys, m, cells, width, path, states);
-    Formed { made, looked }
-}
-
-// Builds in all rows at the front of a marked table, and looks at every row.
-pub fn build_and_look(
-    codes: &[u8],
-    sides: &[u64],
-    bytes: &[u8],
-    n: usize,
-    m: usize,
-    table: &mut [u16],
-) -> Formed {
+// How many rows of a table that is built are right.
+fn rows_right(q: &[u64; SHEET], bytes: &[u8]) -> u64 {
+    let m = atoms(q);
+    let width = width_of(q);
     let mut keys = [KEY_MARK; KEYS];
-    let mut path = [0u16; PATH];
-    look_at(
-        codes,
-        sides,
+    let mut table = [CELL_MARK; TABLE];
+    let lent = front_keys(&mut keys, cells_of(ROWS, m));
+    let made = built(
         bytes,
         m,
-        width_of(n),
-        &mut keys,
-        &mut path,
-        table,
+        width,
+        lent,
+        front_cells(&mut table, cells_of(ROWS, width)),
+    );
+    look_table(q, &keys, &table, made.states)
+}
+
+// Whether the states built fit what deciding told: as many where nothing satisfies, and at least as many where a word is found.
+fn fits(made: Told, told: Told, bound: u64) -> bool {
+    let states = made.states;
+    let verdict = told.verdict;
+    let count = states as u64;
+    if made.verdict == NO_ROOM {
+        return (count == LENT) & (LENT < bound) & (verdict != NEVER);
+    }
+    let found = (verdict == FOUND) & (told.states <= states);
+    (count <= bound) & (found | ((verdict == NEVER) & (told.states == states)))
+}
+
+fn less(x: usize) -> usize {
+    if 0 < x { x - 1 } else { 0 }
+}
+
+// Whether building in the states made and in one less makes what follows.
+fn same_again(q: &[u64; SHEET], bytes: &[u8], made: Told) -> bool {
+    let states = made.states;
+    if made.verdict != BUILT {
+        return made.verdict == NO_ROOM;
+    }
+    let fewer = less(states);
+    same_told(made_by(q, bytes, states), made)
+        & same_told(made_by(q, bytes, fewer), tell(NO_ROOM, fewer, 0))
+}
+
+fn right_amount(q: &[u64; SHEET], bytes: &[u8], told: Told, made: Told) -> u64 {
+    where_right(
+        fits(made, told, bound_of(q)) & same_again(q, bytes, made),
+        1,
     )
 }
 
-fn build_in(bytes: &[u8], n: usize, m: usize, rows: usize, table: &mut [u16]) -> Made {
-    let mut keys = [KEY_MARK; KEYS];
-    build_at(bytes, m, width_of(n), rows, &mut keys, table)
+// Whether a table says of the word found that it satisfies.
+fn found_amount(q: &[u64; SHEET], table: &[u16], told: Told, found: &[u8]) -> u64 {
+    where_right(
+        (told.verdict != FOUND) | (run_word(q, table, found) == 1),
+        0,
+    )
 }
 
-// Whether building in no more rows makes what follows from what was made in many.
-pub fn same_in(bytes: &[u8], n: usize, m: usize, rows: usize, made: Made) -> bool {
+// What is counted of a table's words, of those that satisfy, and the next seed.
+fn run_amounts(q: &[u64; SHEET], table: &[u16], told: Told, found: &[u8], seed: u64) -> [u64; 3] {
+    let long = run_long(q, table, seed);
+    let words = plus(
+        SHORT_WORDS + LONG_WORDS,
+        found_amount(q, table, told, found),
+    );
+    [words, plus(run_short(q, table), long[0]), long[1]]
+}
+
+// What is counted of building, from tables built to words run that satisfy, and the next seed.
+pub fn built_amounts(
+    q: &[u64; SHEET],
+    bytes: &[u8],
+    told: Told,
+    found: &[u8],
+    seed: u64,
+) -> [u64; 6] {
     let mut table = [CELL_MARK; TABLE];
-    let again = build_in(bytes, n, m, rows, &mut table);
-    if made.built && made.states <= rows {
-        return again.built && again.states == made.states;
+    let made = made_in(q, bytes, ROWS, &mut table);
+    let right = right_amount(q, bytes, told, made);
+    if made.verdict != BUILT {
+        return [0, right, 0, 0, 0, seed];
     }
-    !again.built && again.states == rows
+    let cells = first_cells(&table, cells_of(made.states, width_of(q)));
+    let runs = run_amounts(q, cells, told, found, seed);
+    [right, 0, rows_right(q, bytes), runs[0], runs[1], runs[2]]
 }

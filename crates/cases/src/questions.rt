@@ -1,24 +1,29 @@
 // The questions by chance, one by one.
-use crate::beside::LETTER_MARK;
-use crate::chance::roll;
-use crate::comparing::compare_again;
-use crate::comparing::compare_decided;
-use crate::deciding::ROWS;
-use crate::formulas::draw_formula;
-use crate::held::question_of;
-use crate::held::same_question;
-use crate::sides::CELLS;
-use crate::sides::draw_numbers;
-use crate::spelled::stretch;
-use crate::tabling::Case;
-use crate::tabling::compare_built;
+ghost use Prim.Native.Nat.{_≤_};
+use crate::as_bytes::reads_back;
+use crate::as_bytes::written;
+use crate::building::built_amounts;
+use crate::deciding::decided_amounts;
+use crate::judging::judged;
 use crate::tally;
+use crate::tally::KINDS;
 use crate::tally::add;
-use crate::tally::expect;
-use crate::tuples::large_tuple;
+use crate::tally::add_all;
+use crate::tally::where_right;
+use compared::asked::decided_in;
+use compared::buffers::BYTE_MARK;
+use compared::buffers::first_values;
+use compared::buffers::stretch;
 use scope::Question;
-use scope::ReadAnswer;
-use scope::WriteAnswer;
+use search::chance::after;
+use search::drawn::draw;
+use search::edges::ROWS;
+use search::held::question_of;
+use search::plain::POWER;
+use search::sheet::SEED;
+use search::sheet::SHEET;
+use search::sheet::atoms;
+use search::tried::large_tuple;
 
 const VARIABLES: u64 = Question::VARIABLES as u64;
 
@@ -29,79 +34,47 @@ const QUESTIONS: u64 = 20 * VARIABLES * ATOMS;
 
 const BYTES: usize = 512;
 
-pub fn written(question: Question, bytes: &mut [u8]) -> usize {
-    match wire::write(question, bytes) {
-        WriteAnswer::Written(n) => n,
-        WriteAnswer::Refused(_) => 0,
-    }
-}
-
-fn reads_back(bytes: &[u8], question: Question) -> bool {
-    let held = wire::read(bytes);
-    let answer = held.answer;
-    let other = held.question;
-    match answer {
-        ReadAnswer::Accepted => same_question(question, other),
-        ReadAnswer::Refused(_) => false,
-    }
-}
-
-// Decides the question, builds its table, and judges a tuple of large values.
-fn compare(
-    number: u64,
-    codes: &[u8],
-    sides: &[u64; CELLS],
-    n: usize,
-    m: usize,
-    bytes: &[u8],
-    seed: &mut u64,
-    counts: &mut [u64],
-) {
-    let mut word = [LETTER_MARK; ROWS];
-    let told = compare_decided(number, codes, sides, n, m, bytes, &mut word, counts);
-    let few = roll(seed, 30);
-    compare_again(number, m, bytes, told, few, counts);
+// Compares what the calls say of a question's bytes, and answers the next seed.
+fn compare(number: u64, q: &[u64; SHEET], bytes: &[u8], counts: &mut [u64; KINDS]) -> u64 {
+    let mut word = [BYTE_MARK; ROWS];
+    let told = decided_in(bytes, atoms(q), ROWS, &mut word);
     let found = stretch(&word, 0, told.letters);
-    let case = Case { number, n, m };
-    compare_built(case, codes, sides, bytes, found, told, seed, counts);
-    let same = large_tuple(codes, sides, n, bytes, seed);
-    expect(same, number, b"judged by large values", counts);
+    let few = after(q[SEED]);
+    let decided = decided_amounts(q, bytes, told, found, few);
+    let built = built_amounts(q, bytes, told, found, few);
+    let large = large_tuple(built[5]);
+    add_all(counts, number, tally::DECIDED, &decided);
+    add_all(counts, number, tally::BUILT, first_values(&built, 5));
+    add(
+        counts,
+        number,
+        tally::JUDGED,
+        where_right(judged(q, bytes, &large), 0),
+    );
+    large[POWER]
 }
 
-// Draws a question with n variables and m atoms, writes it, reads it back, and compares what the calls say of its bytes.
-fn ask(number: u64, n: u8, m: usize, seed: &mut u64, counts: &mut [u64]) {
-    let mut codes = [0u8; Question::NODES];
-    let mut sides = [0u64; CELLS];
-    let nodes = draw_formula(m, seed, &mut codes);
-    let scale = roll(seed, 7);
-    draw_numbers(n as usize, m, scale, seed, &mut sides);
-    let question = question_of(n, codes, &sides);
+// Draws a question with n variables and m atoms, writes it, reads it back, and compares.
+fn ask(number: u64, n: usize, m: usize, seed: u64, counts: &mut [u64; KINDS]) -> u64
+    requires { ⌜ n ≤ 6 ⌝ }
+{
+    let q = draw(n, m, seed);
     let mut bytes = [0u8; BYTES];
-    let len = written(question, &mut bytes);
-    add(counts, tally::QUESTIONS, 1);
-    let same = reads_back(stretch(&bytes, 0, len), question);
-    expect(same, number, b"read back", counts);
-    compare(
-        number,
-        stretch(&codes, 0, nodes),
-        &sides,
-        n as usize,
-        m,
-        stretch(&bytes, 0, len),
-        seed,
-        counts,
-    );
+    let len = written(question_of(&q), &mut bytes);
+    let same = reads_back(stretch(&bytes, 0, len), question_of(&q));
+    add(counts, number, tally::QUESTIONS, where_right(same, 1));
+    compare(number, &q, stretch(&bytes, 0, len), counts)
 }
 
 // Asks every question and prints the counts.
 pub fn run() {
-    let mut counts = [0u64; tally::KINDS];
+    let mut counts = [0u64; KINDS];
     let mut seed = 20_260_101;
     let mut number = 0;
     while number < QUESTIONS {
-        let n = (number % VARIABLES) as u8 + 1;
+        let n = (number % VARIABLES) as usize + 1;
         let m = (number / VARIABLES % ATOMS) as usize + 1;
-        ask(number, n, m, &mut seed, &mut counts);
+        seed = ask(number, n, m, seed, &mut counts);
         number += 1;
     }
     tally::print_counts(&counts);

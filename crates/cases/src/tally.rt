@@ -1,57 +1,82 @@
-// What is counted, and what is said where something differs.
+// What is counted, and what is said where something differs. What is looked at is a count, or wrong where it differs.
+ghost use Prim.Native.Nat.{_≤_};
+use compared::text::word;
 use libc::STDOUT_FILENO;
+use search::cells::WRONG;
+use search::plain::plus;
 
-pub const KINDS: usize = 16;
-
+// The kinds that are named here: questions read back; from deciding's verdicts by their numbers to first words; from built to words run
+// that satisfy; and tuples judged.
 pub const QUESTIONS: usize = 0;
 
-pub const FOUND: usize = 1;
-
-pub const NEVER: usize = 2;
-
-pub const NO_ROOM: usize = 3;
-
-pub const BUILT: usize = 4;
-
-pub const NOT_BUILT: usize = 5;
-
-pub const TUPLES: usize = 6;
+pub const DECIDED: usize = 1;
 
 pub const JUDGED: usize = 7;
 
-pub const WORDS: usize = 8;
+pub const BUILT: usize = 10;
 
-pub const FIRST: usize = 9;
+const DIFFERENCES: usize = 15;
 
-pub const RUNS: usize = 10;
+pub const KINDS: usize = 16;
 
-pub const YES: usize = 11;
-
-pub const AGAIN: usize = 12;
-
-pub const ROWS: usize = 13;
-
-pub const TABLE_ROWS: usize = 14;
-
-pub const DIFFERENCES: usize = 15;
-
-fn sum(a: u64, b: u64) -> u64 {
-    if u64::MAX - a < b {
-        return u64::MAX;
-    }
-    a + b
+// Prints what is counted by a kind, and a blank.
+fn print_name(kind: usize) {
+    let names =
+        b"questions by chance\ndecided found\ndecided never\ndecided no room\nrows looked at\ndecided again in fewer rows or letters\ntuples tried\ntuples judged\nwords tried in order\nfirst words that satisfy\ntables built\ntables not built for want of room\ntable rows looked at\nwords run\nwords run that satisfy\ndifferences\n";
+    io::write_all(STDOUT_FILENO, word(names, kind, b'\n'));
+    io::write_all(STDOUT_FILENO, b" ");
 }
 
-pub fn add(counts: &mut [u64], kind: usize, amount: u64) {
-    if kind < counts.len() {
-        counts[kind] = sum(counts[kind], amount);
-    }
-}
-
-pub fn print_count(before: &[u8], count: u64, after: &[u8]) {
-    io::write_all(STDOUT_FILENO, before);
+fn print_count(count: u64) {
     io::print_decimal(STDOUT_FILENO, count);
-    io::write_all(STDOUT_FILENO, after);
+    io::write_all(STDOUT_FILENO, b"\n");
+}
+
+fn say_wrong(number: u64, kind: usize) {
+    print_name(kind);
+    io::write_all(STDOUT_FILENO, b"differs in question ");
+    print_count(number);
+}
+
+fn more(counts: &mut [u64; KINDS], kind: usize, amount: u64) {
+    if kind < KINDS {
+        counts[kind] = plus(counts[kind], amount);
+    }
+}
+
+// What is counted where it is right.
+pub fn where_right(right: bool, amount: u64) -> u64 {
+    if right { amount } else { WRONG }
+}
+
+// Counts an amount of a kind, or a difference in the question of a number.
+pub fn add(counts: &mut [u64; KINDS], number: u64, kind: usize, amount: u64) {
+    if amount == WRONG {
+        more(counts, DIFFERENCES, 1);
+        say_wrong(number, kind);
+    } else {
+        more(counts, kind, amount);
+    }
+}
+
+// Counts the amounts of a kind and those after it.
+pub fn add_all(counts: &mut [u64; KINDS], number: u64, kind: usize, amounts: &[u64])
+    requires { ⌜ kind ≤ 16 ⌝ }
+{
+    let mut i = 0;
+    while i < amounts.len() && i < KINDS {
+        add(counts, number, kind + i, amounts[i]);
+        i += 1;
+    }
+}
+
+pub fn print_counts(counts: &[u64; KINDS]) {
+    let mut kind = 0;
+    while kind < KINDS {
+        print_name(kind);
+        print_count(counts[kind]);
+        kind += 1;
+    }
 }
 
 // Says whether a case is right.
@@ -62,39 +87,4 @@ pub fn say(name: &[u8], right: bool) {
     } else {
         io::write_all(STDOUT_FILENO, b" wrong\n");
     }
-}
-
-// Says what differs in which question, and counts it.
-pub fn expect(same: bool, number: u64, what: &[u8], counts: &mut [u64]) {
-    if !same {
-        add(counts, DIFFERENCES, 1);
-        print_count(b"question ", number, b" differs: ");
-        io::write_all(STDOUT_FILENO, what);
-        io::write_all(STDOUT_FILENO, b"\n");
-    }
-}
-
-fn print_kind(name: &[u8], kind: usize, counts: &[u64]) {
-    if kind < counts.len() {
-        print_count(name, counts[kind], b"\n");
-    }
-}
-
-pub fn print_counts(counts: &[u64]) {
-    print_kind(b"questions by chance ", QUESTIONS, counts);
-    print_kind(b"decided found ", FOUND, counts);
-    print_kind(b"decided never ", NEVER, counts);
-    print_kind(b"decided no room ", NO_ROOM, counts);
-    print_kind(b"rows looked at ", ROWS, counts);
-    print_kind(b"decided again in fewer rows or letters ", AGAIN, counts);
-    print_kind(b"tuples tried ", TUPLES, counts);
-    print_kind(b"tuples judged ", JUDGED, counts);
-    print_kind(b"words tried in order ", WORDS, counts);
-    print_kind(b"first words that satisfy ", FIRST, counts);
-    print_kind(b"tables built ", BUILT, counts);
-    print_kind(b"tables not built for want of room ", NOT_BUILT, counts);
-    print_kind(b"table rows looked at ", TABLE_ROWS, counts);
-    print_kind(b"words run ", RUNS, counts);
-    print_kind(b"words run that satisfy ", YES, counts);
-    print_kind(b"differences ", DIFFERENCES, counts);
 }

@@ -19,25 +19,28 @@ use Rattle.scope.specs.Question.{atomsOf, atomCount}
 use Rattle.scope.specs.States.{State, cellsOf, startOf}
 use Rattle.scope.specs.Numbering.{Row, Rows, machineOf, startRow, row}
 use Rattle.scope.specs.Deciding.{Verdict, found, never, noRoom, counted, decideRoom, keyCells, pathCells, decideAnswer, wordAfter, decidedQuestion}
-use Rattle.theory.specs.Lawful.{machine-lawful}
-use Rattle.theory.specs.Table.{Rooted, Stepped, numbered-rooted}
-use Rattle.theory.specs.Firsts.{word-start, word-row}
-use Rattle.theory.specs.Exploring.{start-found, start-counted, no-rows}
-use Rattle.theory.specs.Verdicts.{Found, found-iff}
-use Rattle.theory.specs.Joined.{joined-at, atFront-before, atFront-length}
-use Rattle.theory.specs.Lengths.{path-length, keys-length, counted-are}
-use Rattle.theory.specs.Deciding.{rowsOf, rowWord, verdictOf, countedRows}
+use Rattle.scope.specs.Sizes.{mostLetters}
+use Rattle.theory.specs.Machine.Lawful.{machine-lawful}
+use Rattle.theory.specs.Machine.Table.{Rooted, Stepped, numbered-rooted}
+use Rattle.theory.specs.Machine.Firsts.{word-start, word-row}
+use Rattle.theory.specs.Machine.Exploring.{start-found, start-counted, no-rows}
+use Rattle.theory.specs.Machine.Verdicts.{Found, found-iff}
+use Rattle.theory.specs.Numbers.Joined.{joined-at, atFront-before, atFront-length}
+use Rattle.theory.specs.Calls.Lengths.{path-length, keys-length, counted-are}
+use Rattle.theory.specs.Calls.Deciding.{rowsOf, rowWord, verdictOf, countedRows}
 use Rattle.step.specs.declared.Kinds.{Kinds}
 use Rattle.step.specs.Laws.{start-cells}
-use Rattle.explore.specs.declared.Plan.{Plan}
-use Rattle.explore.specs.declared.Explored.{Explored}
+use Rattle.plan.specs.declared.Plan.{Plan}
+use Rattle.plan.specs.declared.Explored.{Explored}
+use Rattle.plan.specs.Simulated.{PlanMade}
 use Rattle.explore.specs.Areas.{pathRows, front-twice}
 use Rattle.explore.specs.Outcome.{exploredAs}
-use Rattle.explore.specs.Simulated.{PlanMade, NumberedQuestion}
-use Rattle.decide.specs.Path.{fromAt, letterAt, rows-linked, rows-word, no-letters}
+use Rattle.explore.specs.Question.{NumberedQuestion}
+use Rattle.path.specs.Path.{fromAt, letterAt, rows-linked, rows-word, no-letters}
 use Rattle.decide.specs.Start.{StartPut}
-use Rattle.decide.specs.Lends.{Lends, keys-long}
-use Rattle.decide.specs.Decides.{Decides, wordFound, answerBy, wordBy, Answers, Spelt, SpeltIf}
+use Rattle.decide.specs.Lends.{DecideLends, keys-long}
+use Rattle.path.specs.Answering.{wordFound, exploredAnswer, wordBy, Answers, Spelt, SpeltIf}
+use Rattle.decide.specs.Decides.{Decides}
 
 -- the start does not accept, and so many rows are lent
 pub record Explores (q : Question) (rows : ℕ) (keys₀ : List ℤ) (path₀ : List ℕ) (keys₁ : List ℤ) (path₁ : List ℕ) (explored : Explored) : Type 0 where
@@ -48,7 +51,7 @@ pub record Explores (q : Question) (rows : ℕ) (keys₀ : List ℤ) (path₀ : 
 
 -- ---- where the start accepts
 
-module _ {q : Question} {atoms : Kinds} {rows : ℕ} {keys₀ : List ℤ} {path₀ : List ℕ} (ask : Lends q atoms rows keys₀ path₀)
+module _ {q : Question} {atoms : Kinds} {rows : ℕ} {keys₀ : List ℤ} {path₀ : List ℕ} (ask : DecideLends q atoms rows keys₀ path₀)
     {keys₁ : List ℤ} {path₁ : List ℕ} (put : StartPut (q .constants) (atomCount q) keys₀ keys₁ path₀ path₁) where
   start-row-cells : keyCells (startRow (machineOf q) ∷ []) ≡ take (atomCount q) (q .constants)
   unfolding keyCells joined startRow machineOf
@@ -100,9 +103,9 @@ module _ {q : Question} {atoms : Kinds} {rows : ℕ} {keys₀ : List ℤ} {path�
 
 -- ---- the answer
 
-module _ {q : Question} {atoms : Kinds} {rows : ℕ} {keys₀ : List ℤ} {path₀ : List ℕ} (ask : Lends q atoms rows keys₀ path₀)
+module _ {q : Question} {atoms : Kinds} {rows : ℕ} {keys₀ : List ℤ} {path₀ : List ℕ} (ask : DecideLends q atoms rows keys₀ path₀)
     {keys₁ : List ℤ} {path₁ : List ℕ} {explored : Explored} (e : Explores q rows keys₀ path₀ keys₁ path₁ explored) where
-  few-letters : machineOf q .letters ≤ 64
+  few-letters : machineOf q .letters ≤ mostLetters
   unfolding machineOf
   few-letters = pow-mono (ask .limits .variables)
 
@@ -168,8 +171,8 @@ module _ {q : Question} {atoms : Kinds} {rows : ℕ} {keys₀ : List ℤ} {path�
         ap (λ (v : Word). v ▹ its .letter) (rows-word (machineOf q) rooted path₁ (its .from) inside froms letters-are)
         ∙ sym (word-row (machineOf q) rooted w some (at .inside))
 
-  pub spelt : SpeltIf explored path₁
-  spelt = rw (e .answer) (go (verdictOf q rows) refl)
+  pub word-spelt : SpeltIf explored path₁
+  word-spelt = rw (e .answer) (go (verdictOf q rows) refl)
     where
       go : (v : Verdict) → verdictOf q rows ≡ v → SpeltIf (exploredAs (machineOf q) v rows (rowsOf q rows)) path₁
       go (found w) x = found-spelt w x
@@ -178,7 +181,7 @@ module _ {q : Question} {atoms : Kinds} {rows : ℕ} {keys₀ : List ℤ} {path�
 
   module _ {word₀ word₁ : List ℕ} {answer₁ : DecideAnswer} (a : Answers explored path₁ word₀ word₁ answer₁) where
     answer-is : (v : Verdict) → verdictOf q rows ≡ v
-        → answerBy (exploredAs (machineOf q) v rows (rowsOf q rows)) path₁ word₀ ≡ decideAnswer v rows (rowsOf q rows) (machineOf q) word₀
+        → exploredAnswer (exploredAs (machineOf q) v rows (rowsOf q rows)) path₁ word₀ ≡ decideAnswer v rows (rowsOf q rows) (machineOf q) word₀
     answer-is (found w) x = rw (found-word-is w x)
     answer-is never x = refl
     answer-is noRoom x = refl
@@ -189,10 +192,10 @@ module _ {q : Question} {atoms : Kinds} {rows : ℕ} {keys₀ : List ℤ} {path�
     word-is never x = refl
     word-is noRoom x = refl
 
-    pub decides : Decides (decidedQuestion q keys₀ path₀ word₀) answer₁ keys₁ path₁ word₁
+    pub question-decided : Decides (decidedQuestion q keys₀ path₀ word₀) answer₁ keys₁ path₁ word₁
     unfolding decidedQuestion
-    decides = rw (← ask .rows-are) record {
-      answer = a .answer ∙ ap (λ (x : Explored). answerBy x path₁ word₀) (e .answer) ∙ answer-is (verdictOf q rows) refl;
+    question-decided = rw (← ask .rows-are) record {
+      answer = a .answer ∙ ap (λ (x : Explored). exploredAnswer x path₁ word₀) (e .answer) ∙ answer-is (verdictOf q rows) refl;
       keys = e .keys;
       path = e .path;
       word = a .word ∙ ap (λ (x : Explored). wordBy x path₁ word₀) (e .answer) ∙ word-is (verdictOf q rows) refl;

@@ -3,7 +3,7 @@
 use mathlib.Core.Path.{_≡_, refl, sym, ap, _∙_}
 use mathlib.Core.Bool.{Bool, true, false}
 use mathlib.Core.List.{List, [], _∷_}
-use Prim.Native.Nat.{ℕ, _≤_}
+use Prim.Native.Nat.{ℕ, _≤_, _*_}
 use native.Mathlib.Omega.{arith}
 use lib.ListN.{length, take}
 use lib.Seq.{length-take-le}
@@ -12,31 +12,33 @@ use Rattle.scope.specs.declared.Question.{Question}
 use Rattle.scope.specs.Question.{atomsOf, atomCount}
 use Rattle.scope.specs.States.{cellsOf, startOf}
 use Rattle.scope.specs.Numbering.{machineOf}
-use Rattle.theory.specs.Range.{StateIn, startOf-in}
-use Rattle.theory.specs.Joined.{atFront-cells, atFront-length}
-use Rattle.theory.specs.Simulation.{Simulates}
+use Rattle.scope.specs.Sizes.{mostAtoms, mostLetters}
+use Rattle.theory.specs.Entries.Range.{StateIn, startOf-in}
+use Rattle.theory.specs.Numbers.Joined.{atFront-cells, atFront-length}
+use Rattle.theory.specs.Machine.Simulation.{Simulates}
 use Rattle.formula.specs.Truths.{truthAt}
 use Rattle.step.specs.declared.Kinds.{Kinds}
 use Rattle.step.specs.Cells.{worthCells, Sums}
 use Rattle.step.specs.Atoms.{few-atoms}
 use Rattle.step.specs.Laws.{start-cells}
-use Rattle.explore.specs.declared.Plan.{Plan}
-use Rattle.explore.specs.declared.Explored.{Explored}
-use Rattle.explore.specs.Machine.{machine, Task}
+use Rattle.plan.specs.declared.Plan.{Plan}
+use Rattle.plan.specs.declared.Explored.{Explored}
+use Rattle.plan.specs.Machine.{machine, Task}
+use Rattle.plan.specs.Simulated.{PlanAsked, PlanMade, row-accepts, simulates, question-task, start-fits}
 use Rattle.explore.specs.Outcome.{Ready, Numbered}
-use Rattle.explore.specs.Simulated.{PlanAsked, PlanMade, row-accepts, simulates, question-task, start-fits, NumberedQuestion, numbered-question}
+use Rattle.explore.specs.Question.{NumberedQuestion, numbered-question}
 use Rattle.decide.specs.Start.{StartPut}
-use Rattle.decide.specs.Lends.{Lends, constants-long, keys-long}
+use Rattle.decide.specs.Lends.{DecideLends, constants-long, keys-long}
 
-module _ {q : Question} {atoms : Kinds} {rows : ℕ} {keys₀ : List ℤ} {path₀ : List ℕ} (ask : Lends q atoms rows keys₀ path₀) {sums : List ℤ} where
-  pub asks-plan : Sums (q .n) (atoms .m) (q .coefficients) sums → length sums ≡ 512 → PlanAsked q atoms sums
+module _ {q : Question} {atoms : Kinds} {rows : ℕ} {keys₀ : List ℤ} {path₀ : List ℕ} (ask : DecideLends q atoms rows keys₀ path₀) {sums : List ℤ} where
+  pub asks-plan : Sums (q .n) (atoms .m) (q .coefficients) sums → length sums ≡ (mostAtoms * mostLetters) → PlanAsked q atoms sums
   asks-plan s whole = record { limits = ask .limits; kinds-are = ask .kinds-are; count = ask .count; sums-are = s; whole = whole }
 
   module _ {plan : Plan} (made : PlanMade q sums rows true true plan) where
     width-is : plan .width ≡ atomCount q
     width-is = made .planned .tables .count
 
-    pub asks-start : (plan .width ≤ 8) × (plan .width ≤ length (q .constants)) × (plan .width ≤ length keys₀) × (2 ≤ length path₀)
+    pub asks-start : (plan .width ≤ mostAtoms) × (plan .width ≤ length (q .constants)) × (plan .width ≤ length keys₀) × (2 ≤ length path₀)
     asks-start = rw width-is (few-atoms (ask .limits), constants-long ask, keys-long ask, omega (arith, ask .some-rows, ask .path-room))
 
     pub start-put : {keys₁ : List ℤ} {path₁ : List ℕ} → StartPut (q .constants) (plan .width) keys₀ keys₁ path₀ path₁ → StartPut (q .constants) (atomCount q) keys₀ keys₁ path₀ path₁
@@ -70,8 +72,8 @@ module _ {q : Question} {atoms : Kinds} {rows : ℕ} {keys₀ : List ℤ} {path�
       pub task : Task plan sums
       task = question-task (made .planned)
 
-      pub numbered : {keys : List ℤ} {path : List ℕ} {r : Explored} → Numbered (machine plan sums keys₁) plan keys₁ path₁ keys path r → NumberedQuestion q plan keys₁ path₁ keys path r
-      numbered n = numbered-question q same plan n
+      pub handed-numbered : {keys : List ℤ} {path : List ℕ} {r : Explored} → Numbered (machine plan sums keys₁) plan keys₁ path₁ keys path r → NumberedQuestion q plan keys₁ path₁ keys path r
+      handed-numbered n = numbered-question q same plan n
 
       pub ready : machineOf q .accepts (machineOf q .start) ≡ false → Ready (machine plan sums keys₁) plan keys₁ path₁
       ready no-word = record {

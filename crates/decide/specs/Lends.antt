@@ -10,25 +10,25 @@ use Rattle.scope.specs.declared.Question.{Question}
 use Rattle.scope.specs.Sizes.{mostStates}
 use Rattle.scope.specs.Question.{atomCount}
 use Rattle.scope.specs.Deciding.{decideRoom}
-use Rattle.theory.specs.Answers.{atom-count}
-use Rattle.theory.specs.Accepted.{WithinLimits}
+use Rattle.theory.specs.Wire.Answers.{atom-count}
+use Rattle.theory.specs.Wire.Accepted.{WithinLimits}
 use Rattle.step.specs.declared.Kinds.{Kinds}
 use Rattle.step.specs.Eight.{padded}
 use Rattle.step.specs.Cells.{kindCodes, Coefficients}
 use Rattle.step.specs.Atoms.{kinds-count, few-atoms, coefficients-fit}
 
 -- what deciding in so many rows asks
-pub record Lends (q : Question) (atoms : Kinds) (rows : ℕ) (keys : List ℤ) (path : List ℕ) : Type 0 where
+pub record DecideLends (q : Question) (atoms : Kinds) (rows : ℕ) (keys : List ℤ) (path : List ℕ) : Type 0 where
   pub limits : WithinLimits q
   pub kinds-are : atoms .kinds ≡ padded 0 (kindCodes (q .codes))
   pub count : atoms .m ≡ atomCount q
   pub rows-are : rows ≡ decideRoom q keys path
   pub some-rows : 0 < rows
-  pub few-rows : rows ≤ 65535
+  pub few-rows : rows ≤ mostStates
   pub keys-room : rows * atomCount q ≤ length keys
   pub path-room : 2 * rows ≤ length path
 
-module _ {q : Question} {atoms : Kinds} {rows : ℕ} {keys₀ : List ℤ} {path₀ : List ℕ} (ask : Lends q atoms rows keys₀ path₀) where
+module _ {q : Question} {atoms : Kinds} {rows : ℕ} {keys₀ : List ℤ} {path₀ : List ℕ} (ask : DecideLends q atoms rows keys₀ path₀) where
   pub constants-long : atomCount q ≤ length (q .constants)
   constants-long = omega (arith, few-atoms (ask .limits), ask .limits .sized .constants)
 
@@ -52,7 +52,7 @@ module _ {q : Question} (w : WithinLimits q) {m : ℕ} (counts : m ≡ length (k
     unfolding decideRoom
     room-is = rw (← count-is) least
 
-    pub lends : {kinds : List ℕ} → kinds ≡ padded 0 (kindCodes (q .codes)) → ¬ (rows ≡ 0) → Lends q (record { kinds = kinds; m = m }) rows keys path
+    pub lends : {kinds : List ℕ} → kinds ≡ padded 0 (kindCodes (q .codes)) → ¬ (rows ≡ 0) → DecideLends q (record { kinds = kinds; m = m }) rows keys path
     lends k some = record {
       limits = w;
       kinds-are = k;

@@ -1,5 +1,4 @@
--- What deciding leaves; the word that a path area spells; and how exploring a question comes to its answer.
-pub mod Path
+-- What deciding leaves, and how exploring a question comes to its answer.
 pub mod Decides
 pub mod Start
 pub mod Lends

@@ -12,11 +12,12 @@ use lib.IntN.{ℤ}
 use Rattle.scope.specs.Numbering.{Machine}
 use Rattle.index.specs.Rows.{rowAt, front-row}
 use Rattle.index.specs.Index.{Key}
-use Rattle.explore.specs.declared.Plan.{Plan}
-use Rattle.explore.specs.declared.Stand.{Stand}
-use Rattle.explore.specs.Machine.{Runs}
+use Rattle.plan.specs.declared.Plan.{Plan}
+use Rattle.plan.specs.declared.Stand.{Stand}
+use Rattle.plan.specs.Machine.{Runs}
+use Rattle.plan.specs.Moves.{place}
 use Rattle.explore.specs.Areas.{kept-refl, kept-trans}
-use Rattle.explore.specs.Standing.{Linked, Stands, RowOf, StandsBy, stands-as, Went, place, Tried, FrontStays, Ended}
+use Rattle.explore.specs.Standing.{Linked, Stands, RowOf, StandsBy, stands-as, Went, Tried, FrontStays, ExploringEnded}
 
 pub record Exploring (M : Machine (List ℤ)) (plan : Plan) (count₀ : ℕ) (keys₀ : List ℤ) (path₀ : List ℕ) (keys : List ℤ) (path links : List ℕ) (s : Stand) : Type 0 where
   pub going : s .stopped ≡ false
@@ -36,7 +37,7 @@ module _ {M : Machine (List ℤ)} {plan : Plan} {count₀ : ℕ} {keys₀ : List
   pub stands : Stands M plan keys path s
   stands = stands-as M plan keys path s (e .going) refl (e .went .there)
 
-  pub ends : s .count ≤ s .row → Ended M plan count₀ keys₀ path₀ keys path s
+  pub ends : s .count ≤ s .row → ExploringEnded M plan count₀ keys₀ path₀ keys path s
   ends h = record { went = e .went; all = λ _. h }
 
   module _ {keys′ : List ℤ} {path′ links′ : List ℕ} {t : Stand} (tried : Tried M plan s keys path keys′ path′ links′ t) where
@@ -50,7 +51,7 @@ module _ {M : Machine (List ℤ)} {plan : Plan} {count₀ : ℕ} {keys₀ : List
     pub goes-on : t .stopped ≡ false → Exploring M plan count₀ keys₀ path₀ keys′ path′ links′ t
     goes-on h = record { going = h; went = goes; linked = tried .linked h }
 
-    pub stops : t .stopped ≡ true → Ended M plan count₀ keys₀ path₀ keys′ path′ t
+    pub stops : t .stopped ≡ true → ExploringEnded M plan count₀ keys₀ path₀ keys′ path′ t
     stops h = record { went = goes; all = λ z. absurd (let y : _≡_ {A = ℕ} 0 1 = cc in omega arith) }
 
 -- ---- at letter after letter of the row at which `from` stands, or past it

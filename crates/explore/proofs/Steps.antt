@@ -9,17 +9,17 @@ use lib.ListN.{take}
 use lib.Seq.{take-take, paste}
 use lib.IntN.{ℤ}
 use Rattle.scope.specs.Numbering.{Machine, row}
-use Rattle.theory.specs.Lawful.{Lawful}
-use Rattle.theory.specs.Table.{HasRow}
-use Rattle.theory.specs.Exploring.{partial, target, New, grown, partial-old, partial-new, grown-none}
-use Rattle.theory.specs.Simulation.{AllGood}
+use Rattle.theory.specs.Machine.Lawful.{Lawful}
+use Rattle.theory.specs.Machine.Table.{HasRow}
+use Rattle.theory.specs.Machine.Exploring.{partial, target, New, rowsGrown, partial-old, partial-new, grown-none}
+use Rattle.theory.specs.Machine.Simulation.{AllGood}
 use Rattle.index.specs.Rows.{rowAt, stored-front}
 use Rattle.index.specs.Index.{Finds}
-use Rattle.explore.specs.declared.Plan.{Plan}
-use Rattle.explore.specs.declared.Stand.{Stand}
-use Rattle.explore.specs.Machine.{KeyRow}
+use Rattle.plan.specs.declared.Plan.{Plan}
+use Rattle.plan.specs.declared.Stand.{Stand}
+use Rattle.plan.specs.Machine.{KeyRow}
 use Rattle.explore.specs.Areas.{Held, Stored, RowRoom, held-row, held-more}
-use Rattle.explore.specs.Standing.{Lent, There, Stands, FoundAt}
+use Rattle.explore.specs.Standing.{Lent, There, Stands, FoundLast}
 use Rattle.explore.specs.Stages.{has-begun}
 
 one-row : (count width : ℕ) → 0 < count → width ≤ count * width
@@ -54,7 +54,7 @@ module _ (M : Machine (List ℤ)) (ok : Lawful M) {plan : Plan} {keys : List ℤ
   module _ (new : New M (s .row) (s .letter)) {key : List ℤ} (key-is : take (plan .width) key ≡ target M (partial M (s .row) (s .letter)) (s .row) (s .letter))
       (room : RowRoom (plan .width) (plan .noting) (s .count) key keys path) {keys′ : List ℤ} {path′ : List ℕ}
       (stored : Stored (plan .width) (plan .noting) (s .count) key (s .row) (s .letter) keys path keys′ path′) (free : s .count < plan .rows) where
-    held-grown : Held (plan .width) (plan .noting) (grown M (s .row) (s .letter)) (s .count + 1) keys′ path′
+    held-grown : Held (plan .width) (plan .noting) (rowsGrown M (s .row) (s .letter)) (s .count + 1) keys′ path′
     held-grown = rw key-is at (held-more room stored (t .rows-there .held))
 
     pub new-row : Lent plan keys′ path′
@@ -76,7 +76,7 @@ module _ (M : Machine (List ℤ)) (ok : Lawful M) {plan : Plan} {keys : List ℤ
     })
 
     pub found-row : plan .testing ≡ true → M .accepts (target M (partial M (s .row) (s .letter)) (s .row) (s .letter)) ≡ true
-        → FoundAt M plan keys′ path′ (record { count = s .count + 1; row = s .row; letter = s .letter; stopped = true; accepted = true })
+        → FoundLast M plan keys′ path′ (record { count = s .count + 1; row = s .row; letter = s .letter; stopped = true; accepted = true })
     found-row d e = record {
       is-tested = d;
       spot = record { begun = has-begun M t below; letter-ok = t .letter-ok; new = new };

@@ -8,22 +8,23 @@ use native.Mathlib.Omega.{arith}
 use lib.ListN.{length, take}
 use lib.IntN.{ℤ}
 use Rattle.scope.specs.Numbering.{Machine, row}
-use Rattle.theory.specs.Lawful.{Lawful}
-use Rattle.theory.specs.Exploring.{partial, target, New, partial-zero, partial-all}
-use Rattle.theory.specs.Simulation.{AllGood, good-at}
+use Rattle.theory.specs.Machine.Lawful.{Lawful}
+use Rattle.theory.specs.Machine.Exploring.{partial, target, New, partial-zero, partial-all}
+use Rattle.theory.specs.Machine.Simulation.{AllGood, good-at}
 use Rattle.step.specs.Cells.{stepCells}
 use Rattle.step.specs.Laws.{step-length}
 use Rattle.index.specs.Rows.{rowAt, row-end, stored-front}
 use Rattle.index.specs.Index.{Finds}
-use Rattle.explore.specs.declared.Plan.{Plan}
-use Rattle.explore.specs.declared.Stand.{Stand}
-use Rattle.explore.specs.Machine.{KeyRow, Task, Runs}
-use Rattle.explore.specs.Loaded.{Loaded, Steps, key-accepts, steps, target-is}
+use Rattle.plan.specs.declared.Plan.{Plan}
+use Rattle.plan.specs.declared.Stand.{Stand}
+use Rattle.plan.specs.Machine.{KeyRow, Task, Runs}
+use Rattle.plan.specs.Loaded.{Loaded, Steps, key-accepts, steps, target-is}
+use Rattle.plan.specs.Moves.{After, next-letter, next-row, Moved}
+use Rattle.plan.proofs.Skipping.{all-passed}
 use Rattle.explore.specs.Areas.{path-count-le, Kept, RowRoom, kept-refl, kept-more, held-row}
-use Rattle.explore.specs.Standing.{Lent, Linked, There, Stands, RowOf, After, next-letter, next-row, Moved, place, Tried, FrontStays, RowFits, RowAdded}
+use Rattle.explore.specs.Standing.{Lent, Linked, There, Stands, RowOf, Tried, FrontStays, RowFits, RowAdded}
 use Rattle.explore.specs.Stages.{has-begun}
 use Rattle.explore.proofs.Steps.{old-row, is-old, is-new, new-row, found-row}
-use Rattle.explore.proofs.Skipping.{all-passed}
 
 both : (a b : Bool) → a && b ≡ true → (a ≡ true) × (b ≡ true)
 both true b e = (refl, e)
@@ -89,8 +90,8 @@ module _ {plan : Plan} {sums start : List ℤ} {M : Machine (List ℤ)} (runs : 
           omega (arith, path-count-le (plan .noting) (s .count + 1) (plan .rows) e, t .rows-there .lent .path-room);
     }
 
-    pub fits : s .count < plan .rows → {links : List ℕ} → Linked plan keys links (s .count) → RowFits plan s key keys path links
-    fits h linked = record {
+    pub row-fits-in : s .count < plan .rows → {links : List ℕ} → Linked plan keys links (s .count) → RowFits plan s key keys path links
+    row-fits-in h linked = record {
       room = room-for h;
       is-key = stepping .keyed;
       number = omega (arith, t .rows-there .lent .few-rows);

@@ -12,10 +12,10 @@ use lib.Seq.{take-suc-set, drop-set-lt, length-take-le, drop-drop, drop-at, take
 use lib.IntN.{ℤ}
 use Rattle.scope.specs.Whole.{joined, atFront}
 use Rattle.scope.specs.Numbering.{Machine, Row, Rows, startRow, row}
-use Rattle.theory.specs.Simulation.{AllGood, good-at}
-use Rattle.theory.specs.Joined.{joined-length, joined-append}
+use Rattle.theory.specs.Machine.Simulation.{AllGood, good-at}
+use Rattle.theory.specs.Numbers.Joined.{joined-length, joined-append}
 use Rattle.index.specs.Rows.{rowAt, filled-row}
-use Rattle.explore.specs.Machine.{KeyRow}
+use Rattle.plan.specs.Machine.{KeyRow}
 
 -- ---- rows as they stand in the areas
 

@@ -3,7 +3,6 @@ use Prim.Native.Nat.{ℕ, suc, _*_, _≤_, _<_}
 use mathlib.Core.Path.{_≡_, refl, sym, ap, _∙_}
 use mathlib.Core.Logic.{by-cases}
 use mathlib.Core.Bool.{Bool, true, false}
-use mathlib.Core.Option.{none}
 use mathlib.Core.List.{List}
 use native.Mathlib.Decide.{ℕ-discrete}
 use native.Mathlib.Nat.{mul-le-mul-right}
@@ -13,14 +12,15 @@ use lib.ListN.{length}
 use lib.IntN.{ℤ}
 use Rattle.scope.specs.Numbering.{Machine, Rows, row, numbered}
 use Rattle.scope.specs.Deciding.{Verdict, found, never, noRoom, counted}
-use Rattle.theory.specs.Lawful.{Lawful}
-use Rattle.theory.specs.Exploring.{partial, newRow, grown-length, partial-zero, partial-longer, found-end, found-row, found-counted, no-room-end, no-room-more, no-room-taken, never-end, all-fit, all-rows}
-use Rattle.explore.specs.declared.Plan.{Plan}
-use Rattle.explore.specs.declared.Stand.{Stand}
-use Rattle.explore.specs.declared.Explored.{Explored}
+use Rattle.theory.specs.Machine.Lawful.{Lawful}
+use Rattle.theory.specs.Machine.Exploring.{partial, newRow, grown-length, partial-zero, partial-longer, found-end, found-row, found-counted, no-room-end, no-room-more, no-room-taken, never-end, all-fit, all-rows}
+use Rattle.plan.specs.declared.Plan.{Plan}
+use Rattle.plan.specs.declared.Stand.{Stand}
+use Rattle.plan.specs.declared.Explored.{Explored}
+use Rattle.plan.specs.Moves.{withRows, exploredBy}
 use Rattle.explore.specs.Areas.{pathCount, path-count-le, Held, Kept, keys-front, path-front}
-use Rattle.explore.specs.Standing.{Lent, Stands, FoundAt, FullAt, StandsBy, Ended, withRows}
-use Rattle.explore.specs.Outcome.{outcome, exploredAs, exploredBy, Numbered}
+use Rattle.explore.specs.Standing.{Lent, Stands, FoundLast, FullAt, StandsBy, ExploringEnded}
+use Rattle.explore.specs.Outcome.{outcome, exploredAs, Numbered}
 use Rattle.explore.specs.Stages.{has-begun}
 
 module _ (M : Machine (List ℤ)) (ok : Lawful M) (plan : Plan) (keys₀ : List ℤ) (path₀ : List ℕ) {keys : List ℤ} {path : List ℕ} (lent : Lent plan keys path) where
@@ -37,7 +37,7 @@ module _ (M : Machine (List ℤ)) (ok : Lawful M) (plan : Plan) (keys₀ : List 
 
   -- ---- a state that accepts
 
-  module _ {few : ℕ} {s : Stand} (less : few ≤ rows) (f : FoundAt M (withRows plan few) keys path s) (kept : Kept (plan .width) (plan .noting) (s .count) keys₀ path₀ keys path) where
+  module _ {few : ℕ} {s : Stand} (less : few ≤ rows) (f : FoundLast M (withRows plan few) keys path s) (kept : Kept (plan .width) (plan .noting) (s .count) keys₀ path₀ keys path) where
     abbrev before : Rows (List ℤ)
     before = partial M (s .row) (s .letter)
 
@@ -125,7 +125,7 @@ module _ (M : Machine (List ℤ)) (ok : Lawful M) (plan : Plan) (keys₀ : List 
 
   -- ---- exploring has ended, with so few rows; for want of rows only where they are all
 
-  pub ended-numbered : {few count₀ : ℕ} {s : Stand} → few ≤ rows → Ended M (withRows plan few) count₀ keys₀ path₀ keys path s
+  pub ended-numbered : {few count₀ : ℕ} {s : Stand} → few ≤ rows → ExploringEnded M (withRows plan few) count₀ keys₀ path₀ keys path s
       → (s .stopped ≡ true → s .accepted ≡ false → few ≡ rows)
       → Numbered M plan keys₀ path₀ keys path (exploredBy (s .stopped) (s .accepted) s)
   ended-numbered {few} {s = s} less e whole = go (s .stopped) (s .accepted) refl refl (e .went .there)

@@ -12,9 +12,8 @@ use Rattle.scope.specs.Whole.{atFront}
 use Rattle.scope.specs.Numbering.{Machine, Rows, row, numbered}
 use Rattle.scope.specs.Deciding.{Verdict, found, never, noRoom, verdictBy, verdict, counted}
 use Rattle.step.specs.Cells.{CellFits}
-use Rattle.explore.specs.declared.Plan.{Plan}
-use Rattle.explore.specs.declared.Stand.{Stand}
-use Rattle.explore.specs.declared.Explored.{Explored}
+use Rattle.plan.specs.declared.Plan.{Plan}
+use Rattle.plan.specs.declared.Explored.{Explored}
 use Rattle.explore.specs.Areas.{rowCells, pathRows}
 use Rattle.explore.specs.Standing.{Lent}
 
@@ -41,9 +40,3 @@ pub record Numbered (M : Machine (List ℤ)) (plan : Plan) (keys₀ : List ℤ) 
   pub answer : r ≡ exploredAs M (outcome (plan .testing) M (plan .rows)) (plan .rows) (numbered M (plan .rows))
   pub keys-after : keys ≡ atFront (rowCells (counted (outcome (plan .testing) M (plan .rows)) (plan .rows) (numbered M (plan .rows)))) keys₀
   pub path-after : path ≡ atFront (pathRows (plan .noting) (counted (outcome (plan .testing) M (plan .rows)) (plan .rows) (numbered M (plan .rows)))) path₀
-
--- by whether exploring has stopped, and whether a state was accepted
-abbrev pub exploredBy : Bool → Bool → Stand → Explored
-exploredBy false b s = Explored.All (s .count)
-exploredBy true true s = Explored.Found (s .count) (s .row) (s .letter)
-exploredBy true false s = Explored.NoRoom (s .count)

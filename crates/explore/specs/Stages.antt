@@ -12,13 +12,15 @@ use lib.Seq.{getD-take, length-take-le}
 use lib.IntN.{ℤ, pos}
 use Rattle.scope.specs.Whole.{joined}
 use Rattle.scope.specs.Numbering.{Machine, startRow, numbered}
-use Rattle.theory.specs.Exploring.{partial-zero, start-rows, start-none}
+use Rattle.scope.specs.Sizes.{mostAtoms}
+use Rattle.theory.specs.Machine.Exploring.{partial-zero, start-rows, start-none}
 use Rattle.index.specs.Laws.{none-indexed}
-use Rattle.explore.specs.declared.Plan.{Plan}
-use Rattle.explore.specs.declared.Stand.{Stand}
-use Rattle.explore.specs.Machine.{KeyRow, Task}
+use Rattle.plan.specs.declared.Plan.{Plan}
+use Rattle.plan.specs.declared.Stand.{Stand}
+use Rattle.plan.specs.Machine.{KeyRow, Task}
+use Rattle.plan.specs.Moves.{withRows, goingAt}
 use Rattle.explore.specs.Areas.{rowCells, pathRows, pathCount, path-count-le, Held, kept-trans}
-use Rattle.explore.specs.Standing.{Lent, Linked, Stands, FullAt, stands-as, Ended, withRows, goingAt}
+use Rattle.explore.specs.Standing.{Lent, Linked, Stands, FullAt, stands-as, ExploringEnded}
 use Rattle.explore.specs.Outcome.{Ready}
 
 take-none : {A : Type 0} (l : List A) → take 0 l ≡ []
@@ -27,7 +29,7 @@ take-none (x ∷ l) = refl
 
 -- ---- an index as it is made: every link is none
 
-pub none-linked : (plan : Plan) (keys : List ℤ) (size : ℕ) → plan .width ≤ 8 → 0 < size / 2 → size / 2 ≤ 65536 → plan .rows ≤ size / 2
+pub none-linked : (plan : Plan) (keys : List ℤ) (size : ℕ) → plan .width ≤ mostAtoms → 0 < size / 2 → size / 2 ≤ 65536 → plan .rows ≤ size / 2
     → Linked plan keys (replicate size 65535) 0
 none-linked plan keys size narrow some few room = record {
   indexed = none-indexed keys (plan .width) size narrow some few;
@@ -125,11 +127,11 @@ more-stands less lent s =
     }
 
 module _ {M : Machine (List ℤ)} (plan : Plan) {few : ℕ} {count₀ : ℕ} {keys₀ : List ℤ} {path₀ : List ℕ} {keys : List ℤ} {path : List ℕ} {s : Stand}
-    (e : Ended M (withRows plan few) count₀ keys₀ path₀ keys path s) where
+    (e : ExploringEnded M (withRows plan few) count₀ keys₀ path₀ keys path s) where
   pub stopped-full : s .stopped ≡ true → s .accepted ≡ false → FullAt M (withRows plan few) keys path s
   stopped-full p q = stands-as M (withRows plan few) keys path s p q (e .went .there)
 
-  pub ended-after : {keys′ : List ℤ} {path′ : List ℕ} {t : Stand} → Ended M plan (s .count) keys path keys′ path′ t → Ended M plan count₀ keys₀ path₀ keys′ path′ t
+  pub ended-after : {keys′ : List ℤ} {path′ : List ℕ} {t : Stand} → ExploringEnded M plan (s .count) keys path keys′ path′ t → ExploringEnded M plan count₀ keys₀ path₀ keys′ path′ t
   ended-after {t = t} f = record {
     went = record {
       more = omega (arith, e .went .more, f .went .more);

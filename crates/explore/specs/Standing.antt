@@ -7,20 +7,22 @@ use mathlib.Core.List.{List}
 use lib.ListN.{length, take}
 use lib.IntN.{ℤ}
 use Rattle.scope.specs.Numbering.{Machine, Rows, numbered}
-use Rattle.theory.specs.Verdicts.{NoneOf}
-use Rattle.theory.specs.Exploring.{partial, target, New, grown}
-use Rattle.formula.specs.Truths.{bitAt, truthAt}
+use Rattle.scope.specs.Sizes.{mostLetters, mostStates}
+use Rattle.theory.specs.Machine.Verdicts.{NoneOf}
+use Rattle.theory.specs.Machine.Exploring.{partial, target, New, rowsGrown}
+use Rattle.formula.specs.Truths.{truthAt}
 use Rattle.step.specs.Cells.{worthCells}
 use Rattle.index.specs.Rows.{rowAt}
 use Rattle.index.specs.Index.{Key, buckets, Indexed}
-use Rattle.explore.specs.declared.Plan.{Plan}
-use Rattle.explore.specs.declared.Stand.{Stand}
-use Rattle.explore.specs.Machine.{KeyRow}
+use Rattle.plan.specs.declared.Plan.{Plan}
+use Rattle.plan.specs.declared.Stand.{Stand}
+use Rattle.plan.specs.Machine.{KeyRow}
+use Rattle.plan.specs.Moves.{place}
 use Rattle.explore.specs.Areas.{pathCount, Held, Kept, Stored, RowRoom}
 
 -- the areas have room for the rows
 pub record Lent (plan : Plan) (keys : List ℤ) (path : List ℕ) : Type 0 where
-  pub few-rows : plan .rows ≤ 65535
+  pub few-rows : plan .rows ≤ mostStates
   pub keys-room : plan .rows * plan .width ≤ length keys
   pub path-room : pathCount (plan .noting) (plan .rows) ≤ length path
 
@@ -51,22 +53,6 @@ pub record RowOf (plan : Plan) (keys : List ℤ) (s : Stand) (row : List ℤ) : 
   pub cells : take (plan .width) row ≡ rowAt keys (plan .width) (s .row)
   pub key : Key (plan .width) row
 
--- the letters between have their bits at 0
-pub record Skips (fresh letter next : ℕ) : Type 0 where
-  pub later : letter < next
-  pub between : (k : ℕ) → letter < k → k < next → bitAt fresh k ≡ false
-
--- the place after letter a of row i: a later letter, or the next row, with no letter between that is to be tried
-pub data After (plan : Plan) (i a : ℕ) : ℕ → ℕ → Type 0 where
-  next-letter : {b : ℕ} → b < plan .letters → Skips (plan .fresh) a b → After plan i a i b
-  next-row : Skips (plan .fresh) a (plan .letters) → After plan i a (i + 1) 0
-
--- from s to the place after it, with so many rows
-pub record Moved (plan : Plan) (s : Stand) (count : ℕ) (to : Stand) : Type 0 where
-  pub count-is : to .count ≡ count
-  pub goes-on : to .stopped ≡ false
-  pub place : After plan (s .row) (s .letter) (to .row) (to .letter)
-
 -- letter a of row i leads to a state that has no row
 pub record Spot (M : Machine (List ℤ)) (i a : ℕ) : Type 0 where
   pub begun : i < length (numbered M i)
@@ -74,11 +60,11 @@ pub record Spot (M : Machine (List ℤ)) (i a : ℕ) : Type 0 where
   pub new : New M i a
 
 -- the new state was tested, has the last row, and accepts
-pub record FoundAt (M : Machine (List ℤ)) (plan : Plan) (keys : List ℤ) (path : List ℕ) (s : Stand) : Type 0 where
+pub record FoundLast (M : Machine (List ℤ)) (plan : Plan) (keys : List ℤ) (path : List ℕ) (s : Stand) : Type 0 where
   pub is-tested : plan .testing ≡ true
   pub spot : Spot M (s .row) (s .letter)
   pub count-ok : s .count ≤ plan .rows
-  pub held : Held (plan .width) (plan .noting) (grown M (s .row) (s .letter)) (s .count) keys path
+  pub held : Held (plan .width) (plan .noting) (rowsGrown M (s .row) (s .letter)) (s .count) keys path
   pub none : NoneOf M (partial M (s .row) (s .letter)) (length (partial M (s .row) (s .letter)))
   pub accepts : M .accepts (target M (partial M (s .row) (s .letter)) (s .row) (s .letter)) ≡ true
 
@@ -92,7 +78,7 @@ pub record FullAt (M : Machine (List ℤ)) (plan : Plan) (keys : List ℤ) (path
 -- by whether exploring has stopped, and whether a state was accepted
 abbrev pub StandsBy : Bool → Bool → Machine (List ℤ) → Plan → List ℤ → List ℕ → Stand → Type 0
 StandsBy false b M plan keys path s = Stands M plan keys path s
-StandsBy true true M plan keys path s = FoundAt M plan keys path s
+StandsBy true true M plan keys path s = FoundLast M plan keys path s
 StandsBy true false M plan keys path s = FullAt M plan keys path s
 
 pub stands-as : (M : Machine (List ℤ)) (plan : Plan) (keys : List ℤ) (path : List ℕ) (s : Stand) {b c : Bool} → s .stopped ≡ b → s .accepted ≡ c
@@ -106,10 +92,6 @@ pub record Went (M : Machine (List ℤ)) (plan : Plan) (count₀ : ℕ) (keys₀
   pub kept : Kept (plan .width) (plan .noting) (s .count) keys₀ path₀ keys path
   pub there : StandsBy (s .stopped) (s .accepted) M plan keys path s
 
--- how far it has come
-abbrev pub place : Stand → ℕ
-place s = s .row * 64 + s .letter
-
 -- once a letter is tried where `from` stands, or the letters that are left of its row
 pub record Tried (M : Machine (List ℤ)) (plan : Plan) (from : Stand) (keys₀ : List ℤ) (path₀ : List ℕ) (keys : List ℤ) (path links : List ℕ) (s : Stand) : Type 0 where
   pub went : Went M plan (from .count) keys₀ path₀ keys path s
@@ -121,7 +103,7 @@ abbrev pub FrontStays : Plan → Stand → List ℤ → List ℤ → Type 0
 FrontStays plan s keys₀ keys = take (s .count * plan .width) keys ≡ take (s .count * plan .width) keys₀
 
 -- once exploring has ended: where it has not stopped, every row is expanded, and the index has them all
-pub record Ended (M : Machine (List ℤ)) (plan : Plan) (count₀ : ℕ) (keys₀ : List ℤ) (path₀ : List ℕ) (keys : List ℤ) (path : List ℕ) (s : Stand) : Type 0 where
+pub record ExploringEnded (M : Machine (List ℤ)) (plan : Plan) (count₀ : ℕ) (keys₀ : List ℤ) (path₀ : List ℕ) (keys : List ℤ) (path : List ℕ) (s : Stand) : Type 0 where
   pub went : Went M plan count₀ keys₀ path₀ keys path s
   pub all : s .stopped ≡ false → s .count ≤ s .row
 
@@ -131,37 +113,13 @@ pub record Ended (M : Machine (List ℤ)) (plan : Plan) (count₀ : ℕ) (keys�
 pub record RowFits (plan : Plan) (s : Stand) (key keys : List ℤ) (path links : List ℕ) : Type 0 where
   pub room : RowRoom (plan .width) (plan .noting) (s .count) key keys path
   pub is-key : Key (plan .width) key
-  pub number : s .count < 65535
+  pub number : s .count < mostStates
   pub link : s .count < buckets links
-  pub from : s .row < 65535
-  pub letter : s .letter < 64
+  pub from : s .row < mostStates
+  pub letter : s .letter < mostLetters
 
 -- it has the key's cells, and is indexed; and whether it accepts, where that is tested
 pub record RowAdded (plan : Plan) (s : Stand) (key keys₀ : List ℤ) (path₀ : List ℕ) (keys : List ℤ) (path links : List ℕ) (r : Bool) : Type 0 where
   pub stored : Stored (plan .width) (plan .noting) (s .count) key (s .row) (s .letter) keys₀ path₀ keys path
   pub indexed : Indexed keys (plan .width) links (s .count + 1)
   pub says : r ≡ plan .testing && truthAt (plan .truths) (worthCells (plan .kinds) key)
-
--- ---- the two stages
-
--- the same plan in so many rows
-abbrev pub withRows : Plan → ℕ → Plan
-withRows plan rows = record {
-  kinds = plan .kinds;
-  width = plan .width;
-  letters = plan .letters;
-  rows = rows;
-  noting = plan .noting;
-  testing = plan .testing;
-  truths = plan .truths;
-  fresh = plan .fresh;
-}
-
--- at a letter of a row that is to be tried
-abbrev pub goingAt : ℕ → ℕ → ℕ → Stand
-goingAt count row letter = record { count = count; row = row; letter = letter; stopped = false; accepted = false }
-
--- whether exploring with few rows stopped for want of rows, and there are more
-pub record Lacks (few rows : ℕ) (s : Stand) (r : Bool) : Type 0 where
-  pub yes : r ≡ true → (s .stopped ≡ true) × (s .accepted ≡ false) × (few < rows)
-  pub no : r ≡ false → s .stopped ≡ true → s .accepted ≡ false → rows ≤ few

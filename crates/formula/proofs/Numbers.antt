@@ -6,27 +6,27 @@ use mathlib.Core.Path.{_≡_, refl, ap, subst}
 use mathlib.Core.Bool.{Bool, true, false}
 use mathlib.Core.List.{List, [], _∷_}
 use lib.ListN.{length, getD, drop, drop-of-length-le}
-use Rattle.formula.specs.Truths.{oneIf, numberOf}
+use Rattle.formula.specs.Truths.{oneIf, worthsNumber}
 
 pub one-most : (b : Bool) → oneIf b ≤ 1
 one-most true = omega arith
 one-most false = omega arith
 
-below-power : (worths : List Bool) → numberOf worths < 2 ^ length worths
+below-power : (worths : List Bool) → worthsNumber worths < 2 ^ length worths
 below-power [] = omega arith
 below-power (b ∷ worths) = rw (pow-suc 2 (length worths)) (omega (arith, below-power worths, one-most b))
 
-pub number-below : (worths : List Bool) → length worths ≡ 8 → numberOf worths < 256
-number-below worths e = subst (λ (n : ℕ). numberOf worths < 2 ^ n) e (below-power worths)
+pub number-below : (worths : List Bool) → length worths ≡ 8 → worthsNumber worths < 256
+number-below worths e = subst (λ (n : ℕ). worthsNumber worths < 2 ^ n) e (below-power worths)
 
 -- from place i on
-number-at : (worths : List Bool) (i : ℕ) → numberOf (drop i worths) ≡ oneIf (getD worths i false) + 2 * numberOf (drop (suc i) worths)
+number-at : (worths : List Bool) (i : ℕ) → worthsNumber (drop i worths) ≡ oneIf (getD worths i false) + 2 * worthsNumber (drop (suc i) worths)
 number-at [] zero = refl
 number-at [] (suc i) = refl
 number-at (b ∷ worths) zero = refl
 number-at (b ∷ worths) (suc i) = number-at worths i
 
-pub number-four : (a b c d : Bool) → oneIf a + 2 * oneIf b + 4 * oneIf c + 8 * oneIf d ≡ numberOf (a ∷ b ∷ c ∷ d ∷ [])
+pub number-four : (a b c d : Bool) → oneIf a + 2 * oneIf b + 4 * oneIf c + 8 * oneIf d ≡ worthsNumber (a ∷ b ∷ c ∷ d ∷ [])
 number-four a b c d = omega arith
 
 module _ (worths : List Bool) where
@@ -36,10 +36,10 @@ module _ (worths : List Bool) where
   abbrev fourFrom : ℕ → List Bool
   fourFrom i = worth i ∷ worth (suc i) ∷ worth (suc (suc i)) ∷ worth (suc (suc (suc i))) ∷ []
 
-  four-on : (i : ℕ) → numberOf (drop i worths) ≡ numberOf (fourFrom i) + 16 * numberOf (drop (suc (suc (suc (suc i)))) worths)
+  four-on : (i : ℕ) → worthsNumber (drop i worths) ≡ worthsNumber (fourFrom i) + 16 * worthsNumber (drop (suc (suc (suc (suc i)))) worths)
   four-on i = omega (arith, number-at worths i, number-at worths (suc i), number-at worths (suc (suc i)), number-at worths (suc (suc (suc i))))
 
-  pub number-halves : length worths ≡ 8 → numberOf (fourFrom 0) + 16 * numberOf (fourFrom 4) ≡ numberOf worths
+  pub number-halves : length worths ≡ 8 → worthsNumber (fourFrom 0) + 16 * worthsNumber (fourFrom 4) ≡ worthsNumber worths
   number-halves e =
-      let none : numberOf (drop 8 worths) ≡ 0 = ap numberOf (drop-of-length-le worths {i = 8} (omega (arith, e))) in
+      let none : worthsNumber (drop 8 worths) ≡ 0 = ap worthsNumber (drop-of-length-le worths {i = 8} (omega (arith, e))) in
       omega (arith, four-on 0, four-on 4, none)

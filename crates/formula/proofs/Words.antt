@@ -9,7 +9,7 @@ use lib.ListN.{length, getD}
 use lib.Dec.{eqb}
 use lib.Bits.{bitAnd, bitOr, bitXor, differ, and-step, or-step, xor-step, and-shr, or-shr, xor-shr}
 use lib.Pow.{pow-pos, high, ones-split, ones-lt}
-use Rattle.formula.specs.Truths.{numberOf, bitAt, truthAt, WordsOf}
+use Rattle.formula.specs.Truths.{worthsNumber, bitAt, truthAt, WordsOf}
 use Rattle.formula.proofs.Numbers.{number-below}
 
 -- ---- a bit of joined words
@@ -81,13 +81,13 @@ getD-four word (suc (suc (suc zero))) h = refl
 getD-four word (suc (suc (suc (suc i)))) h = absurd (omega arith)
 
 module _ (word : ℕ → ℕ) (bit : ℕ → ℕ → Bool) (law : (i k : ℕ) → k < 64 → bitAt (word i) k ≡ bit i k) where
-  words-of : WordsOf (λ ws. bit (numberOf ws / 64) (numberOf ws % 64)) (word 0 ∷ word 1 ∷ word 2 ∷ word 3 ∷ [])
+  words-of : WordsOf (λ ws. bit (worthsNumber ws / 64) (worthsNumber ws % 64)) (word 0 ∷ word 1 ∷ word 2 ∷ word 3 ∷ [])
   unfolding truthAt
   words-of = record {
     four = refl;
     says = λ ws e.
-        ap (λ (w : ℕ). bitAt w (numberOf ws % 64)) (getD-four word (numberOf ws / 64) (omega (arith, number-below ws e))) ∙
-        law (numberOf ws / 64) (numberOf ws % 64) (omega arith);
+        ap (λ (w : ℕ). bitAt w (worthsNumber ws % 64)) (getD-four word (worthsNumber ws / 64) (omega (arith, number-below ws e))) ∙
+        law (worthsNumber ws / 64) (worthsNumber ws % 64) (omega arith);
   }
 
 pub none-words : WordsOf (λ ws. false) (0 ∷ 0 ∷ 0 ∷ 0 ∷ [])

@@ -9,14 +9,15 @@ use lib.ListN.{length, getD, drop, length-map, List·getD-map}
 use lib.Seq.{drop-cons}
 use Rattle.scope.specs.Question.{unused, nodeOf}
 use Rattle.scope.specs.States.{Settled, settled}
+use Rattle.scope.specs.Sizes.{mostAtoms, mostNodes}
 use Rattle.formula.specs.declared.Part.{Part}
 use Rattle.formula.specs.Truths.{truthAt}
 
 -- all codes, and a node and an atom among 64 and 8 or at their ends
 pub record Placed (codes : List ℕ) (node atom : ℕ) : Type 0 where
-  pub codes-whole : length codes ≡ 64
-  pub node-within : node ≤ 64
-  pub atom-within : atom ≤ 8
+  pub codes-whole : length codes ≡ mostNodes
+  pub node-within : node ≤ mostNodes
+  pub atom-within : atom ≤ mostAtoms
 
 -- the definition's part, of which the code has the places
 abbrev pub meant : List ℕ → List Bool → Part → Settled
@@ -25,9 +26,9 @@ meant codes worths p = record { truth = truthAt (p .truths) worths; nodes = drop
 -- the part that starts at a node and an atom, at most depth deep, is p, whatever the atoms are worth
 pub record Settles (codes : List ℕ) (node atom depth : ℕ) (p : Part) : Type 0 where
   pub four : length (p .truths) ≡ 4
-  pub part : (worths : List Bool) → length worths ≡ 8 → settled depth (drop node (map nodeOf codes)) (drop atom worths) ≡ meant codes worths p
-  pub node-after : p .node ≤ 64
-  pub atom-after : p .atom ≤ 8
+  pub part : (worths : List Bool) → length worths ≡ mostAtoms → settled depth (drop node (map nodeOf codes)) (drop atom worths) ≡ meant codes worths p
+  pub node-after : p .node ≤ mostNodes
+  pub atom-after : p .atom ≤ mostAtoms
 
 -- the nodes from a place on
 pub node-first : (codes : List ℕ) (node : ℕ) → node < length codes → drop node (map nodeOf codes) ≡ nodeOf (getD codes node 0) ∷ drop (node + 1) (map nodeOf codes)

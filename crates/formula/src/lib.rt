@@ -6,7 +6,8 @@ ghost use mathlib.Core.List.{List, [], _∷_, map};
 ghost use Prim.Native.Nat.{_≤_, _<_};
 ghost use lib.ListN.{length, getD};
 ghost use Rattle.scope.specs.Question.{nodeOf};
-ghost use Rattle.formula.specs.Truths.{oneIf, numberOf, truthAt, WordsOf, TruthsOf};
+ghost use Rattle.scope.specs.Sizes.{mostAtoms, mostNodes};
+ghost use Rattle.formula.specs.Truths.{oneIf, worthsNumber, truthAt, WordsOf, TruthsOf};
 ghost use Rattle.formula.specs.Parts.{Placed, Settles};
 
 // The words of a truth have a bit for each of the 2^8 sets of worths.
@@ -23,7 +24,7 @@ fn none() -> [u64; WORDS]
 
 // The words of an atom's worth.
 fn atom_words(atom: usize) -> [u64; WORDS]
-    requires { ⌜ atom < 8 ⌝ }
+    requires { ⌜ atom < mostAtoms ⌝ }
     ensures { λ r. ⌜ WordsOf (λ (ws : List Bool). getD ws atom false) r ⌝ }
 {
     if atom == 0 {
@@ -123,7 +124,7 @@ fn settle(codes: &[u8; Question::NODES], node: usize, atom: usize, depth: usize)
 
 // The words of the formula's truth.
 pub fn truths_of(codes: &[u8; Question::NODES]) -> [u64; WORDS]
-    requires { ⌜ length (now codes) ≡ 64 ⌝ }
+    requires { ⌜ length (now codes) ≡ mostNodes ⌝ }
     ensures { λ r. ⌜ TruthsOf (map nodeOf (now (codes .entry))) r ⌝ }
 {
     let whole = settle(codes, 0, 0, Question::DEPTH);
@@ -142,14 +143,14 @@ fn one(b: bool) -> usize
 
 // Bit i is worth 2^i: the number of four worths.
 fn four(a: bool, b: bool, c: bool, d: bool) -> usize
-    ensures { λ r. ⌜ (r ≡ numberOf (a ∷ b ∷ c ∷ d ∷ [])) × (r < 16) ⌝ }
+    ensures { λ r. ⌜ (r ≡ worthsNumber (a ∷ b ∷ c ∷ d ∷ [])) × (r < 16) ⌝ }
 {
     one(a) + 2 * one(b) + 4 * one(c) + 8 * one(d)
 }
 
 // The number of a set of worths, by its halves.
 fn number(worths: [bool; Question::ATOMS]) -> usize
-    ensures { λ r. ⌜ r ≡ numberOf worths ⌝ }
+    ensures { λ r. ⌜ r ≡ worthsNumber worths ⌝ }
 {
     let low = four(worths[0], worths[1], worths[2], worths[3]);
     let high = four(worths[4], worths[5], worths[6], worths[7]);

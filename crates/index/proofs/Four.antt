@@ -12,8 +12,8 @@ use lib.IntN.{ℤ, pos}
 use lib.Signed.{mag}
 use mir.Syntax.{w32}
 use mir.Val.{ofZ}
-use Rattle.theory.specs.Bits.{same-bits}
-use Rattle.index.specs.Index.{Says, Agree}
+use Rattle.theory.specs.Numbers.Bits.{same-bits}
+use Rattle.index.specs.Index.{Says, CellsAgree}
 
 abbrev differ : ℤ → ℤ → Bool
 differ a b = not (eqb (ofZ w32 a) (ofZ w32 b))
@@ -37,7 +37,7 @@ module _ (keys : List ℤ) (base : ℕ) (key : List ℤ) where
   there i = getD key i (pos 0)
 
   go : (a b c d : Bool) → Tells (here 0) (there 0) a → Tells (here 1) (there 1) b → Tells (here 2) (there 2) c → Tells (here 3) (there 3) d
-      → Says (not (((a || b) || c) || d)) (Agree keys base key 4)
+      → Says (not (((a || b) || c) || d)) (CellsAgree keys base key 4)
   go true b c d s t u v = λ agree. s .other refl (agree 0 (lit< tt))
   go false true c d s t u v = λ agree. t .other refl (agree 1 (lit< tt))
   go false false true d s t u v = λ agree. u .other refl (agree 2 (lit< tt))
@@ -54,9 +54,9 @@ module _ (keys : List ℤ) (base : ℕ) (key : List ℤ) where
   abbrev first : ℤ
   first = getD keys base (pos 0)
 
-  pub four : mag first < 2147483648 → mag (there 0) < 2147483648 → mag (here 1) < 2147483648 → mag (there 1) < 2147483648
+  pub four-agree : mag first < 2147483648 → mag (there 0) < 2147483648 → mag (here 1) < 2147483648 → mag (there 1) < 2147483648
       → mag (here 2) < 2147483648 → mag (there 2) < 2147483648 → mag (here 3) < 2147483648 → mag (there 3) < 2147483648
-      → Says (not (((differ first (there 0) || differ (here 1) (there 1)) || differ (here 2) (there 2)) || differ (here 3) (there 3))) (Agree keys base key 4)
-  four a b c d e f g h =
+      → Says (not (((differ first (there 0) || differ (here 1) (there 1)) || differ (here 2) (there 2)) || differ (here 3) (there 3))) (CellsAgree keys base key 4)
+  four-agree a b c d e f g h =
       let t : Tells (here 0) (there 0) (differ first (there 0)) = rw (add-zero base) (tells first (there 0) a b) in
       go _ _ _ _ t (tells _ _ c d) (tells _ _ e f) (tells _ _ g h)

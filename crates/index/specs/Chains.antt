@@ -13,15 +13,15 @@ abbrev pub buckets : List ℕ → ℕ
 buckets links = length links / 2
 
 -- of a link: the number after its row, and 0 for none
-abbrev pub after : ℕ → ℕ
-after v = (v + 1) % 65536
+abbrev pub linkAfter : ℕ → ℕ
+linkAfter v = (v + 1) % 65536
 
 -- the link v is to a row below n of which P holds, or is none; and Q holds of no row below n that comes after it
 pub record Latest (P Q : ℕ → Type 0) (n v : ℕ) : Type 0 where
   pub link : v ≤ 65535
-  pub low : after v ≤ n
+  pub low : linkAfter v ≤ n
   pub has : (v ≡ 65535 → ⊥) → P v
-  pub none : (s : ℕ) → after v ≤ s → s < n → Q s → ⊥
+  pub none : (s : ℕ) → linkAfter v ≤ s → s < n → Q s → ⊥
 
 -- the link v is to the newest row below count of bucket b
 abbrev pub Newest : (ℕ → ℕ) → ℕ → ℕ → ℕ → Type 0
@@ -138,5 +138,5 @@ module _ {bucket : ℕ → ℕ} {links : List ℕ} {count : ℕ} (Q : ℕ → Ty
       (latest-map (λ s h p. p ∙ l .has real) (λ s h q. there s (omega arith) q ∙ sym (l .has real)) (c .at-next v (omega arith)))
 
   -- its measure
-  pub walk-less : {v : ℕ} → Latest (λ s. bucket s ≡ b) Q count v → (v ≡ 65535 → ⊥) → after (getD links (buckets links + v) 0) < after v
+  pub walk-less : {v : ℕ} → Latest (λ s. bucket s ≡ b) Q count v → (v ≡ 65535 → ⊥) → linkAfter (getD links (buckets links + v) 0) < linkAfter v
   walk-less {v} l real = omega (arith, l .low, l .link, (c .at-next v (omega arith)) .low)

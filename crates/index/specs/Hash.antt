@@ -7,16 +7,16 @@ use lib.ListN.{getD}
 use lib.IntN.{ℤ, pos, _+ℤ_, natAbs}
 
 -- a cell as a number below 2 ^ 32
-unfoldable pub codeOf : ℤ → ℕ
-codeOf z = natAbs (z +ℤ pos 2147483648)
+unfoldable pub cellCode : ℤ → ℕ
+cellCode z = natAbs (z +ℤ pos 2147483648)
 
 -- the code of cell i, and of 0 past the cells
 abbrev pub codeAt : List ℤ → ℕ → ℕ
-codeAt cells i = codeOf (getD cells i (pos 0))
+codeAt cells i = cellCode (getD cells i (pos 0))
 
 -- the sum of eight cells' codes, each by an odd number below 2 ^ 29 of its own
-abbrev pub summed : List ℤ → ℕ
-summed cells =
+abbrev pub codesSummed : List ℤ → ℕ
+codesSummed cells =
     (codeAt cells 0 * 89724889 + codeAt cells 1 * 172061623 + codeAt cells 2 * 224255185 + codeAt cells 3 * 272266025)
     + (codeAt cells 4 * 503303631 + codeAt cells 5 * 35946965 + codeAt cells 6 * 248913303 + codeAt cells 7 * 379851821)
 
@@ -25,7 +25,7 @@ abbrev pub folded : ℕ → ℕ
 folded p = p % 4294967296 + p / 4294967296
 
 unfoldable pub hashOf : List ℤ → ℕ
-hashOf cells = folded (summed cells) % 4294967296
+hashOf cells = folded (codesSummed cells) % 4294967296
 
 -- the hash is below 2 ^ 32, and its highest bits count
 unfoldable pub bucketOf : ℕ → List ℤ → ℕ

@@ -8,9 +8,10 @@ ghost use Prim.Native.Nat.{_+_, _*_, _≤_, _<_};
 ghost use lib.ListN.{length, take};
 ghost use lib.Seq.{paste};
 ghost use Rattle.index.specs.Rows.{rowAt};
-ghost use Rattle.index.specs.Hash.{codeOf, hashOf, bucketOf};
+ghost use Rattle.index.specs.Hash.{cellCode, hashOf, bucketOf};
 ghost use Rattle.index.specs.Chains.{linked};
-ghost use Rattle.index.specs.Index.{buckets, Key, Says, Agree, Indexed, Finds, Room, Sized, Added};
+ghost use Rattle.index.specs.Index.{buckets, Key, Says, CellsAgree, Indexed, Finds, Room, IndexSized, KeyAdded};
+ghost use Rattle.scope.specs.Sizes.{mostAtoms, mostStates};
 
 // No row: the link of a bucket that has none, and of a bucket's oldest row. Where every bucket has it, no row is indexed.
 // It is the first number that no row can have.
@@ -18,7 +19,7 @@ pub const NONE: u16 = Question::STATES as u16;
 
 // A cell as a number that is not negative. By way of 32 bits, so that the compiler sees that it has no more, and multiplies two cells at once.
 fn code(x: i32) -> usize
-    ensures { λ r. ⌜ (r ≡ codeOf x) × (r < 4294967296) ⌝ }
+    ensures { λ r. ⌜ (r ≡ cellCode x) × (r < 4294967296) ⌝ }
 {
     (x as i64 + 2_147_483_648) as u32 as usize
 }
@@ -27,7 +28,7 @@ fn code(x: i32) -> usize
 // 0 differ by 2 ^ 31, which a sum of 32 bits would tell apart only by its highest bit. There is no test, since past a row's own cells a key
 // has 0. Chains are about as short as by chance for rows of small numbers and dead cells.
 fn hash(key: &[i32; Question::ATOMS]) -> usize
-    requires { ⌜ length (now key) ≡ 8 ⌝ }
+    requires { ⌜ length (now key) ≡ mostAtoms ⌝ }
     ensures { λ r. ⌜ (r ≡ hashOf (now (key .entry))) × (r < 4294967296) ⌝ }
 {
     let low = code(key[0]) * 89_724_889
@@ -44,7 +45,7 @@ fn hash(key: &[i32; Question::ATOMS]) -> usize
 
 // The bucket, of n, of a key.
 pub fn bucket(key: &[i32; Question::ATOMS], n: usize) -> usize
-    requires { ⌜ (length (now key) ≡ 8) × (0 < n) × (n ≤ 65536) ⌝ }
+    requires { ⌜ (length (now key) ≡ mostAtoms) × (0 < n) × (n ≤ 65536) ⌝ }
     ensures { λ r. ⌜ (r ≡ bucketOf n (now (key .entry))) × (r < n) ⌝ }
 {
     hash(key) * n / 4_294_967_296
@@ -52,8 +53,8 @@ pub fn bucket(key: &[i32; Question::ATOMS], n: usize) -> usize
 
 // Whether one of the four cells from `base` on is not the key's: all four are compared at once.
 fn fronts_differ(keys: &[i32], base: usize, key: &[i32; Question::ATOMS]) -> bool
-    requires { ⌜ (base + 4 ≤ length (now keys)) × (length (now key) ≡ 8) ⌝ }
-    ensures { λ r. ⌜ Says (not r) (Agree (now (keys .entry)) base (now (key .entry)) 4) ⌝ }
+    requires { ⌜ (base + 4 ≤ length (now keys)) × (length (now key) ≡ mostAtoms) ⌝ }
+    ensures { λ r. ⌜ Says (not r) (CellsAgree (now (keys .entry)) base (now (key .entry)) 4) ⌝ }
 {
     (keys[base] != key[0])
         | (keys[base + 1] != key[1])
@@ -63,7 +64,7 @@ fn fronts_differ(keys: &[i32], base: usize, key: &[i32; Question::ATOMS]) -> boo
 
 // Whether the row has the key's first `width` cells. The loop's length is fixed, so that it is laid out flat.
 pub fn same_row(keys: &[i32], width: usize, row: usize, key: &[i32; Question::ATOMS]) -> bool
-    requires { ⌜ (width ≤ 8) × (length (now key) ≡ 8) × (row * width + width ≤ length (now keys)) ⌝ }
+    requires { ⌜ (width ≤ mostAtoms) × (length (now key) ≡ mostAtoms) × (row * width + width ≤ length (now keys)) ⌝ }
     ensures { λ r. ⌜ Says r (rowAt (now (keys .entry)) width row ≡ take width (now (key .entry))) ⌝ }
 {
     let base = row * width;
@@ -114,7 +115,7 @@ pub fn find(
 
 // Stores the key's first `width` cells as the row's.
 pub fn store_row(keys: &mut [i32], width: usize, row: usize, key: &[i32; Question::ATOMS])
-    requires { ⌜ (width ≤ 8) × (width ≤ length (now key)) × (row * width + width ≤ length (now keys)) ⌝ }
+    requires { ⌜ (width ≤ mostAtoms) × (width ≤ length (now key)) × (row * width + width ≤ length (now keys)) ⌝ }
     ensures { λ _. ⌜ now (keys .exit) ≡ paste (now (keys .entry)) (row * width) (now (key .entry)) width ⌝ }
 {
     let base = row * width;
@@ -128,7 +129,7 @@ pub fn store_row(keys: &mut [i32], width: usize, row: usize, key: &[i32; Questio
 
 // The row's cells as a key, with 0 past them.
 pub fn load_row(keys: &[i32], width: usize, row: usize) -> [i32; Question::ATOMS]
-    requires { ⌜ (width ≤ 8) × (row * width + width ≤ length (now keys)) ⌝ }
+    requires { ⌜ (width ≤ mostAtoms) × (row * width + width ≤ length (now keys)) ⌝ }
     ensures { λ r. ⌜ (take width r ≡ rowAt (now (keys .entry)) width row) × Key width r ⌝ }
 {
     let base = row * width;
@@ -144,8 +145,8 @@ pub fn load_row(keys: &[i32], width: usize, row: usize) -> [i32; Question::ATOMS
 
 // Links row count, which has the key's cells, before the rows of its bucket.
 fn insert(key: &[i32; Question::ATOMS], links: &mut [u16], count: usize)
-    requires { ⌜ length (now key) ≡ 8 ⌝ }
-    requires { ⌜ (count < buckets (now links)) × (buckets (now links) ≤ 65536) × (count < 65535) ⌝ }
+    requires { ⌜ length (now key) ≡ mostAtoms ⌝ }
+    requires { ⌜ (count < buckets (now links)) × (buckets (now links) ≤ 65536) × (count < mostStates) ⌝ }
     ensures { λ _. ⌜ now (links .exit) ≡ linked (now (links .entry)) (bucketOf (buckets (now (links .entry))) (now (key .entry))) count ⌝ }
 {
     let n = links.len() / 2;
@@ -165,7 +166,7 @@ pub fn add(
     requires { ⌜ Indexed (now keys) width (now links) count ⌝ }
     requires { ⌜ Room (now keys) width (now links) count ⌝ }
     requires { ⌜ Key width (now key) ⌝ }
-    ensures { λ _. ⌜ Added (now (keys .entry)) width (now (key .entry)) (now (keys .exit)) (now (links .exit)) count ⌝ }
+    ensures { λ _. ⌜ KeyAdded (now (keys .entry)) width (now (key .entry)) (now (keys .exit)) (now (links .exit)) count ⌝ }
 {
     store_row(keys, width, count, key);
     insert(key, links, count);
@@ -174,7 +175,7 @@ pub fn add(
 // Indexes the first count rows, where no row is indexed yet: as at first, or to go on with more buckets.
 pub fn insert_rows(keys: &[i32], width: usize, links: &mut [u16], count: usize)
     requires { ⌜ Indexed (now keys) width (now links) 0 ⌝ }
-    requires { ⌜ Sized (now keys) width (now links) count ⌝ }
+    requires { ⌜ IndexSized (now keys) width (now links) count ⌝ }
     ensures { λ _. ⌜ Indexed (now (keys .entry)) width (now (links .exit)) count ⌝ }
 {
     let mut row = 0;

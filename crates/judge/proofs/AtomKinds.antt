@@ -7,8 +7,8 @@ use mathlib.Core.List.{List, _∷_, map}
 use lib.ListN.{length, getD, drop}
 use lib.Dec.{eqb}
 use Rattle.scope.specs.Question.{equation, atMost, Node, unused, atom, nodeOf, isAtom, kindsOf}
+use Rattle.theory.specs.Wire.Records.{kindOfCode}
 use Rattle.formula.specs.Parts.{node-first}
-use Rattle.judge.specs.Atoms.{kindOfCode}
 
 pub atom-code : (c : ℕ) → isAtom (nodeOf c) ≡ true → nodeOf c ≡ atom (kindOfCode c)
 atom-code c = by-tests (eqb c 1) (eqb c 2) (eqb c 3) (eqb c 4) (eqb c 5)

@@ -13,21 +13,21 @@ use Rattle.scope.specs.declared.Held.{Held}
 use Rattle.scope.specs.declared.TruthAnswer.{TruthAnswer}
 use Rattle.scope.specs.Whole.{all}
 use Rattle.scope.specs.Sizes.{mostValue}
-use Rattle.scope.specs.Refusals.{refusal, firstRefusal}
+use Rattle.scope.specs.Refusals.{VALUES, refusal, firstRefusal}
 use Rattle.scope.specs.Wire.{readHeld}
 use Rattle.scope.specs.States.{satisfied}
 use Rattle.scope.specs.Running.{truthOf}
 use Rattle.scope.specs.Judging.{judgedQuestion, judgedBy, judged}
-use Rattle.theory.specs.Accepted.{WithinLimits, accepted-within}
-use Rattle.theory.specs.Tests.{all-each}
+use Rattle.theory.specs.Wire.Accepted.{WithinLimits, accepted-within}
+use Rattle.theory.specs.Numbers.Tests.{all-each}
 use Rattle.judge.specs.Atoms.{Judgeable}
 
 module _ (q : Question) (values : List ℕ) where
-  pub judged-miscounted : (length values ≡ q .n → ⊥) → judgedQuestion q values ≡ TruthAnswer.Refused (refusal 9 0)
+  pub judged-miscounted : (length values ≡ q .n → ⊥) → judgedQuestion q values ≡ TruthAnswer.Refused (refusal VALUES 0)
   unfolding judgedQuestion firstRefusal
   judged-miscounted a = rw (ne-eqb (length values) (q .n) a)
 
-  pub judged-large : length values ≡ q .n → all (λ (v : ℕ). leb v mostValue) values ≡ false → judgedQuestion q values ≡ TruthAnswer.Refused (refusal 9 0)
+  pub judged-large : length values ≡ q .n → all (λ (v : ℕ). leb v mostValue) values ≡ false → judgedQuestion q values ≡ TruthAnswer.Refused (refusal VALUES 0)
   unfolding judgedQuestion firstRefusal
   judged-large a b = rw (eq-eqb (length values) (q .n) a, b)
 

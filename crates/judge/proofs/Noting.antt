@@ -14,11 +14,12 @@ use Rattle.scope.specs.declared.Question.{Question}
 use Rattle.scope.specs.Sizes.{mostCoefficient}
 use Rattle.scope.specs.Question.{Kind, equation, Node, nodeOf, isAtom, nodesOf, kindsOf, Atom, coefficientsOf, constantOf, atomsFrom, atomsOf}
 use Rattle.scope.specs.States.{dot, compares, holds, formulaWorth, satisfied}
-use Rattle.theory.specs.Sums.{small-getD}
-use Rattle.theory.specs.Cells.{numbers-fit}
+use Rattle.theory.specs.Wire.Records.{kindOfCode}
+use Rattle.theory.specs.Numbers.Sums.{small-getD}
+use Rattle.theory.specs.Entries.KeyCells.{numbers-fit}
 use Rattle.formula.specs.Alike.{worth-alike}
-use Rattle.judge.specs.Sums.{rowAt, Summable}
-use Rattle.judge.specs.Atoms.{kindOfCode, NextAtom, asked, Judgeable, Worths}
+use Rattle.judge.specs.Sums.{coefficientsFrom, Summable}
+use Rattle.judge.specs.Atoms.{NextAtom, questionFor, Judgeable, Worths}
 use Rattle.judge.proofs.AtomKinds.{kinds-atom}
 
 -- the kinds from a node on
@@ -30,7 +31,7 @@ abbrev worthsFrom : Question → List ℕ → ℕ → List Kind → List Bool
 worthsFrom q values atom κs = map (λ (a : Atom). holds a values) (atomsFrom q atom κs)
 
 -- the atoms before a number are noted, and the node is that of the next one
-pub record Noted (q : Question) (values : List ℕ) (worths : List Bool) (atom at : ℕ) : Type 0 where
+pub record WorthsNoted (q : Question) (values : List ℕ) (worths : List Bool) (atom at : ℕ) : Type 0 where
   pub whole : length worths ≡ 8
   pub within : at ≤ 64
   pub starts : at < 64 → isAtom (nodeOf (getD (q .codes) at 0)) ≡ true
@@ -45,7 +46,7 @@ clear-start i =
     (λ h. List·getD-eq-default (replicate 8 false) false {n = i} (omega arith))
 
 module _ {q : Question} {values : List ℕ} (j : Judgeable q values) where
-  pub noted-start : {at : ℕ} → NextAtom (q .codes) 0 at → Noted q values (replicate 8 false) 0 at
+  pub noted-start : {at : ℕ} → NextAtom (q .codes) 0 at → WorthsNoted q values (replicate 8 false) 0 at
   noted-start {at} s = record {
     whole = refl;
     within = s .within;
@@ -55,7 +56,7 @@ module _ {q : Question} {values : List ℕ} (j : Judgeable q values) where
     clear = λ i h. clear-start i;
   }
 
-  module _ {worths : List Bool} {atom at : ℕ} (g : Noted q values worths atom at) (l : at < 64) where
+  module _ {worths : List Bool} {atom at : ℕ} (g : WorthsNoted q values worths atom at) (l : at < 64) where
     kinds-are : kindsFrom q at ≡ kindOfCode (getD (q .codes) at 0) ∷ kindsFrom q (at + 1)
     kinds-are = kinds-atom (q .codes) at (omega (arith, j .limits .sized .codes)) (g .starts l)
 
@@ -91,7 +92,7 @@ module _ {q : Question} {values : List ℕ} (j : Judgeable q values) where
         }
 
     module _ {next : ℕ} (b : Bool) (s : NextAtom (q .codes) (at + 1) next)
-        (e : b ≡ compares (kindOfCode (getD (q .codes) at 0)) (dot (rowAt (q .coefficients) (6 * atom) values) values) (getD (q .constants) atom (pos 0))) where
+        (e : b ≡ compares (kindOfCode (getD (q .codes) at 0)) (dot (coefficientsFrom (q .coefficients) (6 * atom) values) values) (getD (q .constants) atom (pos 0))) where
       -- what is noted is what the atom is worth
       worth-is : worthsFrom q values atom (kindsFrom q at) ≡ b ∷ worthsFrom q values (atom + 1) (kindsFrom q next)
       unfolding atomsFrom holds coefficientsOf constantOf
@@ -99,7 +100,7 @@ module _ {q : Question} {values : List ℕ} (j : Judgeable q values) where
           ap (worthsFrom q values atom) kinds-are ∙
           (λ i. (sym (e ∙ ap (λ (n : ℕ). compares (kindOfCode (getD (q .codes) at 0)) (dot (take n (drop (6 * atom) (q .coefficients))) values) (getD (q .constants) atom (pos 0))) (j .count))) i ∷ worthsFrom q values (sym (add-one atom) i) (s .passed i))
 
-      pub noted-more : Noted q values (set worths atom b) (atom + 1) next
+      pub noted-more : WorthsNoted q values (set worths atom b) (atom + 1) next
       noted-more = record {
         whole = length-set worths atom b ∙ g .whole;
         within = s .within;
@@ -116,7 +117,7 @@ module _ {q : Question} {values : List ℕ} (j : Judgeable q values) where
       }
 
   -- after the last node all atoms are noted
-  pub noted-all : {worths : List Bool} {atom at : ℕ} → Noted q values worths atom at → 64 ≤ at → Worths q values worths
+  pub noted-all : {worths : List Bool} {atom at : ℕ} → WorthsNoted q values worths atom at → 64 ≤ at → Worths q values worths
   unfolding atomsOf nodesOf kindsOf atomsFrom
   noted-all {worths} {atom} {at} g h =
       let none : drop at (map nodeOf (q .codes)) ≡ [] = drop-of-length-le (map nodeOf (q .codes)) {i = at} (omega (arith, length-map (q .codes) nodeOf, j .limits .sized .codes)) in
@@ -131,7 +132,7 @@ module _ {q : Question} {values : List ℕ} (j : Judgeable q values) where
 
 -- ---- the question of its parts
 
-pub asked-is : (q : Question) (values : List ℕ) → length values ≡ q .n → asked (q .codes) (q .coefficients) (q .constants) values ≡ q
+pub asked-is : (q : Question) (values : List ℕ) → length values ≡ q .n → questionFor (q .codes) (q .coefficients) (q .constants) values ≡ q
 asked-is q values e = λ i. record { n = e i; codes = q .codes; coefficients = q .coefficients; constants = q .constants }
 
 pub worths-satisfy : (q : Question) (values : List ℕ) (worths : List Bool) → Worths q values worths → formulaWorth (map nodeOf (q .codes)) worths ≡ satisfied q values

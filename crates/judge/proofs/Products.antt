@@ -11,8 +11,8 @@ use mir.Syntax.{w32, w64}
 use mir.Val.{SFits}
 use Rattle.scope.specs.Sizes.{mostCoefficient, mostValue}
 use Rattle.scope.specs.States.{dot}
-use Rattle.theory.specs.Magnitude.{abs-add, abs-mul, fits-abs}
-use Rattle.judge.specs.Sums.{rowAt, Summable}
+use Rattle.theory.specs.Numbers.Magnitude.{abs-add, abs-mul, fits-abs}
+use Rattle.judge.specs.Sums.{coefficientsFrom, Summable}
 
 -- 4096 * (2 ^ 40 - 1)
 abbrev mostProduct : ℕ
@@ -48,7 +48,7 @@ dot-none (a ∷ cs) = refl
 
 module _ {coefficients : List ℤ} {at : ℕ} {values : List ℕ} (h : Summable coefficients at values) where
   abbrev row : List ℤ
-  row = rowAt coefficients at values
+  row = coefficientsFrom coefficients at values
 
   row-length : length row ≡ length values
   row-length = simp (length-take, length-drop) (omega (arith, h .within, h .whole))

@@ -12,12 +12,13 @@ ghost use lib.ListN.{length, getD};
 ghost use lib.IntN.{pos, natAbs, _*ℤ_};
 ghost use lib.Dec.{leb};
 ghost use Rattle.scope.specs.Whole.{all};
-ghost use Rattle.scope.specs.Sizes.{mostCoefficient, mostValue};
+ghost use Rattle.scope.specs.Sizes.{mostCoefficient, mostValue, mostAtoms, mostNodes, mostVariables};
 ghost use Rattle.scope.specs.States.{dot, compares, satisfied};
-ghost use Rattle.judge.specs.Sums.{rowAt, Summable};
-ghost use Rattle.judge.specs.Atoms.{kindOfCode, NextAtom, asked, Judgeable, Worths};
-ghost use Rattle.theory.specs.Accepted.{WithinLimits};
+ghost use Rattle.judge.specs.Sums.{coefficientsFrom, Summable};
+ghost use Rattle.judge.specs.Atoms.{NextAtom, questionFor, Judgeable, Worths};
+ghost use Rattle.theory.specs.Wire.Accepted.{WithinLimits};
 ghost use Rattle.scope.specs.Judging.{judgedQuestion, judged};
+ghost use Rattle.theory.specs.Wire.Records.{kindOfCode};
 
 // A coefficient times a value.
 fn product(a: i32, x: u64) -> i64
@@ -30,7 +31,7 @@ fn product(a: i32, x: u64) -> i64
 // The sum of a_j x_j, where the coefficients stand from a place on: from the last variable on.
 fn sum_at(coefficients: &[i32; Question::COEFFICIENTS], at: usize, values: &[u64]) -> i64
     requires { ⌜ Summable (now coefficients) at (now values) ⌝ }
-    ensures { λ r. ⌜ r ≡ dot (rowAt (now (coefficients .entry)) at (now (values .entry))) (now (values .entry)) ⌝ }
+    ensures { λ r. ⌜ r ≡ dot (coefficientsFrom (now (coefficients .entry)) at (now (values .entry))) (now (values .entry)) ⌝ }
 {
     let mut s: i64 = 0;
     let mut j = values.len();
@@ -61,8 +62,8 @@ fn holds(
     atom: usize,
     values: &[u64],
 ) -> bool
-    requires { ⌜ (atom < 8) × Summable (now coefficients) (6 * atom) (now values) ⌝ }
-    ensures { λ r. ⌜ r ≡ compares (kindOfCode code) (dot (rowAt (now (coefficients .entry)) (6 * atom) (now (values .entry))) (now (values .entry))) (getD (now (constants .entry)) atom (pos 0)) ⌝ }
+    requires { ⌜ (atom < mostAtoms) × Summable (now coefficients) (mostVariables * atom) (now values) ⌝ }
+    ensures { λ r. ⌜ r ≡ compares (kindOfCode code) (dot (coefficientsFrom (now (coefficients .entry)) (mostVariables * atom) (now (values .entry))) (now (values .entry))) (getD (now (constants .entry)) atom (pos 0)) ⌝ }
 {
     let sum = sum_at(coefficients, Question::VARIABLES * atom, values);
     let k = constants[atom];
@@ -71,7 +72,7 @@ fn holds(
 
 // The first atom's node from a node on; 64 where there is none.
 fn next_atom(codes: &[u8; Question::NODES], from: usize) -> usize
-    requires { ⌜ (length (now codes) ≡ 64) × (from ≤ 64) ⌝ }
+    requires { ⌜ (length (now codes) ≡ mostNodes) × (from ≤ mostNodes) ⌝ }
     ensures { λ r. ⌜ NextAtom (now (codes .entry)) from r ⌝ }
 {
     let mut at = from;
@@ -91,8 +92,8 @@ fn worths_of(
     constants: &[i32; Question::ATOMS],
     values: &[u64],
 ) -> [bool; Question::ATOMS]
-    requires { ⌜ Judgeable (asked (now codes) (now coefficients) (now constants) (now values)) (now values) ⌝ }
-    ensures { λ r. ⌜ Worths (asked (now (codes .entry)) (now (coefficients .entry)) (now (constants .entry)) (now (values .entry))) (now (values .entry)) r ⌝ }
+    requires { ⌜ Judgeable (questionFor (now codes) (now coefficients) (now constants) (now values)) (now values) ⌝ }
+    ensures { λ r. ⌜ Worths (questionFor (now (codes .entry)) (now (coefficients .entry)) (now (constants .entry)) (now (values .entry))) (now (values .entry)) r ⌝ }
 {
     let mut worths = [false; Question::ATOMS];
     let mut atom = 0;
@@ -144,10 +145,10 @@ fn judge_question(q: Question, values: &[u64]) -> TruthAnswer
 {
     let n = q.n as usize;
     if values.len() != n {
-        return refused(9);
+        return refused(Refusal::VALUES);
     }
     if !values_fit(values) {
-        return refused(9);
+        return refused(Refusal::VALUES);
     }
     if satisfies(q, values) {
         return TruthAnswer::Yes;
@@ -159,7 +160,7 @@ fn judge_question(q: Question, values: &[u64]) -> TruthAnswer
 pub fn judge(bytes: &[u8], values: &[u64]) -> TruthAnswer
     ensures { λ r. ⌜ r ≡ judged (now (bytes .entry)) (now (values .entry)) ⌝ }
 {
-    let held = wire::read(bytes);
+    let held = reading::read(bytes);
     let answer = held.answer;
     let question = held.question;
     match answer {

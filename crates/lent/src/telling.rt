@@ -1,10 +1,10 @@
 // What an exported call tells of its answer: the refusal's number, which it returns, and the cells of `told`.
 ghost use mathlib.Core.Path.{_≡_};
 ghost use mathlib.Core.List.{[], _∷_};
-ghost use lib.ListN.{set};
-ghost use lib.Seq.{sets};
-ghost use Rattle.scope.specs.Refusals.{refused, recordTold, readTold, writeTold, truthTold, decideTold, buildTold, spellTold};
-ghost use Rattle.lent.specs.Told.{four, decideCells, buildCells, Tells, Gives};
+ghost use Prim.Native.Nat.{_≤_, _<_};
+ghost use lib.ListN.{length, getD, take, drop};
+ghost use Rattle.scope.specs.Refusals.{recordTold, readTold, writeTold, truthTold, decideTold, buildTold, spellTold};
+ghost use Rattle.lent.specs.Told.{Tells, Leads, placed, Gives, decideCells, buildCells};
 use scope::BuildAnswer;
 use scope::DecideAnswer;
 use scope::ReadAnswer;
@@ -14,57 +14,52 @@ use scope::SpellAnswer;
 use scope::TruthAnswer;
 use scope::WriteAnswer;
 
-fn put(told: &mut [u64], at: usize, value: u64)
-    ensures { λ _. ⌜ now (told .exit) ≡ set (now (told .entry)) at value ⌝ }
+// The verdicts.
+const REFUSED: u64 = 0;
+
+const FOUND: u64 = 1;
+
+const NEVER: u64 = 2;
+
+const BUILT: u64 = 3;
+
+// What is told: the number, then the cells, 0 where an answer has no value for one.
+const ALL: usize = 6;
+
+// Puts the first cells, so many of them, as far as cells are lent. It returns the number.
+fn put(all: [u64; ALL], count: usize, told: &mut [u64]) -> u64
+    requires { ⌜ (count ≤ 5) × (count < length all) ⌝ }
+    ensures { λ r. ⌜ Tells (getD all 0 0) (take count (drop 1 all)) (now (told .entry)) r (now (told .exit)) ⌝ }
 {
-    if at < told.len() {
-        told[at] = value;
+    let mut i = 0;
+    while i < told.len() && i < count {
+        told[i] = all[1 + i];
+        i += 1;
     }
+    all[0]
 }
 
-fn put_two(told: &mut [u64], place: u64, value: u64)
-    ensures { λ _. ⌜ now (told .exit) ≡ sets (now (told .entry)) 0 (place ∷ value ∷ []) ⌝ }
+fn two(number: u8, place: usize, value: u64) -> [u64; ALL]
+    ensures { λ r. ⌜ r ≡ number ∷ place ∷ value ∷ 0 ∷ 0 ∷ 0 ∷ [] ⌝ }
 {
-    put(told, 0, place);
-    put(told, 1, value);
+    [number as u64, place as u64, value, 0, 0, 0]
 }
 
-fn put_four(told: &mut [u64], place: u64, verdict: u64, states: u64, letters: u64)
-    ensures { λ _. ⌜ now (told .exit) ≡ sets (now (told .entry)) 0 (four place verdict states letters) ⌝ }
+fn four(number: u8, place: usize, verdict: u64, states: usize, letters: usize) -> [u64; ALL]
+    ensures { λ r. ⌜ r ≡ number ∷ place ∷ verdict ∷ states ∷ letters ∷ 0 ∷ [] ⌝ }
 {
-    put(told, 0, place);
-    put(told, 1, verdict);
-    put(told, 2, states);
-    put(told, 3, letters);
+    [
+        number as u64,
+        place as u64,
+        verdict,
+        states as u64,
+        letters as u64,
+        0,
+    ]
 }
 
-fn put_five(told: &mut [u64], place: u64, kind: u64, start: u64, len: u64, next: u64)
-    ensures { λ _. ⌜ now (told .exit) ≡ sets (now (told .entry)) 0 (place ∷ kind ∷ start ∷ len ∷ next ∷ []) ⌝ }
-{
-    put_four(told, place, kind, start, len);
-    put(told, 4, next);
-}
-
-fn wide(count: usize) -> u64
-    ensures { λ r. ⌜ r ≡ count ⌝ }
-{
-    count as u64
-}
-
-fn wide_byte(number: u8) -> u64
-    ensures { λ r. ⌜ r ≡ number ⌝ }
-{
-    number as u64
-}
-
-fn wide_two(number: u16) -> u64
-    ensures { λ r. ⌜ r ≡ number ⌝ }
-{
-    number as u64
-}
-
-pub fn tell_record(answer: RecordAnswer, told: &mut [u64]) -> u64
-    ensures { λ r. ⌜ Gives 4 (recordTold answer) (now (told .entry)) r (now (told .exit)) ⌝ }
+fn record_told(answer: RecordAnswer) -> [u64; ALL]
+    ensures { λ r. ⌜ Leads r 5 (recordTold answer .number) (placed 4 (recordTold answer)) ⌝ }
 {
     match answer {
         RecordAnswer::Record {
@@ -72,14 +67,23 @@ pub fn tell_record(answer: RecordAnswer, told: &mut [u64]) -> u64
             start,
             len,
             next,
-        } => {
-            put_five(told, 0, wide_two(kind), wide(start), wide(len), wide(next));
-            0
-        }
-        RecordAnswer::Refused(refusal) => {
-            put_five(told, wide(refusal.place), 0, 0, 0, 0);
-            wide_byte(refusal.number)
-        }
+        } => [0, 0, kind as u64, start as u64, len as u64, next as u64],
+        RecordAnswer::Refused(refusal) => [refusal.number as u64, refusal.place as u64, 0, 0, 0, 0],
+    }
+}
+
+pub fn tell_record(answer: RecordAnswer, told: &mut [u64]) -> u64
+    ensures { λ r. ⌜ Gives 4 (recordTold answer) (now (told .entry)) r (now (told .exit)) ⌝ }
+{
+    put(record_told(answer), 5, told)
+}
+
+fn read_told(answer: ReadAnswer, n: u8) -> [u64; ALL]
+    ensures { λ r. ⌜ Leads r 2 (readTold answer .number) (readTold answer .place ∷ n ∷ []) ⌝ }
+{
+    match answer {
+        ReadAnswer::Accepted => two(0, 0, n as u64),
+        ReadAnswer::Refused(refusal) => two(refusal.number, refusal.place, n as u64),
     }
 }
 
@@ -87,35 +91,38 @@ pub fn tell_record(answer: RecordAnswer, told: &mut [u64]) -> u64
 pub fn tell_read(answer: ReadAnswer, n: u8, told: &mut [u64]) -> u64
     ensures { λ r. ⌜ Tells (readTold answer .number) (readTold answer .place ∷ n ∷ []) (now (told .entry)) r (now (told .exit)) ⌝ }
 {
-    match answer {
-        ReadAnswer::Accepted => {
-            put_two(told, 0, wide_byte(n));
-            0
-        }
-        ReadAnswer::Refused(refusal) => {
-            put_two(told, wide(refusal.place), wide_byte(n));
-            wide_byte(refusal.number)
-        }
-    }
+    put(read_told(answer, n), 2, told)
 }
 
 // Of a call whose answer has one value.
-fn tell_refused(refusal: Refusal, told: &mut [u64]) -> u64
-    ensures { λ r. ⌜ Gives 1 (refused refusal) (now (told .entry)) r (now (told .exit)) ⌝ }
+fn refusal_told(refusal: Refusal) -> [u64; ALL]
+    ensures { λ r. ⌜ r ≡ refusal .number ∷ refusal .place ∷ 0 ∷ 0 ∷ 0 ∷ 0 ∷ [] ⌝ }
 {
-    put_two(told, wide(refusal.place), 0);
-    wide_byte(refusal.number)
+    two(refusal.number, refusal.place, 0)
+}
+
+fn write_told(answer: WriteAnswer) -> [u64; ALL]
+    ensures { λ r. ⌜ Leads r 2 (writeTold answer .number) (placed 1 (writeTold answer)) ⌝ }
+{
+    match answer {
+        WriteAnswer::Written(count) => two(0, 0, count as u64),
+        WriteAnswer::Refused(refusal) => refusal_told(refusal),
+    }
 }
 
 pub fn tell_written(answer: WriteAnswer, told: &mut [u64]) -> u64
     ensures { λ r. ⌜ Gives 1 (writeTold answer) (now (told .entry)) r (now (told .exit)) ⌝ }
 {
+    put(write_told(answer), 2, told)
+}
+
+fn truth_told(answer: TruthAnswer) -> [u64; ALL]
+    ensures { λ r. ⌜ Leads r 2 (truthTold answer .number) (placed 1 (truthTold answer)) ⌝ }
+{
     match answer {
-        WriteAnswer::Written(count) => {
-            put_two(told, 0, wide(count));
-            0
-        }
-        WriteAnswer::Refused(refusal) => tell_refused(refusal, told),
+        TruthAnswer::Yes => two(0, 0, 1),
+        TruthAnswer::No => two(0, 0, 0),
+        TruthAnswer::Refused(refusal) => refusal_told(refusal),
     }
 }
 
@@ -123,73 +130,60 @@ pub fn tell_written(answer: WriteAnswer, told: &mut [u64]) -> u64
 pub fn tell_truth(answer: TruthAnswer, told: &mut [u64]) -> u64
     ensures { λ r. ⌜ Gives 1 (truthTold answer) (now (told .entry)) r (now (told .exit)) ⌝ }
 {
+    put(truth_told(answer), 2, told)
+}
+
+fn spell_told(answer: SpellAnswer) -> [u64; ALL]
+    ensures { λ r. ⌜ Leads r 2 (spellTold answer .number) (placed 1 (spellTold answer)) ⌝ }
+{
     match answer {
-        TruthAnswer::Yes => {
-            put_two(told, 0, 1);
-            0
-        }
-        TruthAnswer::No => {
-            put_two(told, 0, 0);
-            0
-        }
-        TruthAnswer::Refused(refusal) => tell_refused(refusal, told),
+        SpellAnswer::Value(value) => two(0, 0, value),
+        SpellAnswer::Refused(refusal) => refusal_told(refusal),
     }
 }
 
 pub fn tell_spelt(answer: SpellAnswer, told: &mut [u64]) -> u64
     ensures { λ r. ⌜ Gives 1 (spellTold answer) (now (told .entry)) r (now (told .exit)) ⌝ }
 {
+    put(spell_told(answer), 2, told)
+}
+
+fn decide_told(answer: DecideAnswer) -> [u64; ALL]
+    ensures { λ r. ⌜ Leads r 4 (decideTold answer .number) (decideCells answer) ⌝ }
+{
     match answer {
-        SpellAnswer::Value(value) => {
-            put_two(told, 0, value);
-            0
-        }
-        SpellAnswer::Refused(refusal) => tell_refused(refusal, told),
+        DecideAnswer::Found { states, letters } => four(0, 0, FOUND, states, letters),
+        DecideAnswer::Never { states } => four(0, 0, NEVER, states, 0),
+        DecideAnswer::NoRoom { states } => four(Refusal::NO_ROOM, 0, REFUSED, states, 0),
+        DecideAnswer::Short { states, letters } => four(
+            Refusal::TOO_SHORT,
+            0,
+            REFUSED,
+            states,
+            letters,
+        ),
+        DecideAnswer::Refused(refusal) => four(refusal.number, refusal.place, REFUSED, 0, 0),
     }
 }
 
 pub fn tell_decided(answer: DecideAnswer, told: &mut [u64]) -> u64
     ensures { λ r. ⌜ Tells (decideTold answer .number) (decideCells answer) (now (told .entry)) r (now (told .exit)) ⌝ }
 {
+    put(decide_told(answer), 4, told)
+}
+
+fn build_told(answer: BuildAnswer) -> [u64; ALL]
+    ensures { λ r. ⌜ Leads r 4 (buildTold answer .number) (buildCells answer) ⌝ }
+{
     match answer {
-        DecideAnswer::Found { states, letters } => {
-            put_four(told, 0, 1, wide(states), wide(letters));
-            0
-        }
-        DecideAnswer::Never { states } => {
-            put_four(told, 0, 2, wide(states), 0);
-            0
-        }
-        DecideAnswer::NoRoom { states } => {
-            put_four(told, 0, 0, wide(states), 0);
-            7
-        }
-        DecideAnswer::Short { states, letters } => {
-            put_four(told, 0, 0, wide(states), wide(letters));
-            8
-        }
-        DecideAnswer::Refused(refusal) => {
-            put_four(told, wide(refusal.place), 0, 0, 0);
-            wide_byte(refusal.number)
-        }
+        BuildAnswer::Built { states } => four(0, 0, BUILT, states, 0),
+        BuildAnswer::NoRoom { states } => four(Refusal::NO_ROOM, 0, REFUSED, states, 0),
+        BuildAnswer::Refused(refusal) => four(refusal.number, refusal.place, REFUSED, 0, 0),
     }
 }
 
 pub fn tell_built(answer: BuildAnswer, told: &mut [u64]) -> u64
     ensures { λ r. ⌜ Tells (buildTold answer .number) (buildCells answer) (now (told .entry)) r (now (told .exit)) ⌝ }
 {
-    match answer {
-        BuildAnswer::Built { states } => {
-            put_four(told, 0, 3, wide(states), 0);
-            0
-        }
-        BuildAnswer::NoRoom { states } => {
-            put_four(told, 0, 0, wide(states), 0);
-            7
-        }
-        BuildAnswer::Refused(refusal) => {
-            put_four(told, wide(refusal.place), 0, 0, 0);
-            wide_byte(refusal.number)
-        }
-    }
+    put(build_told(answer), 4, told)
 }

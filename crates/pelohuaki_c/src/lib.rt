@@ -18,15 +18,15 @@ use lent::tell_record;
 use lent::tell_spelt;
 use lent::tell_truth;
 use lent::tell_written;
+use reading::PartsAnswer;
 use scope::Question;
 use scope::ReadAnswer;
-use wire::PartsAnswer;
 
 #[no_mangle]
 pub extern "C" fn pelohuaki_record_at(bytes: &[u8], at: usize, told: &mut [u64]) -> u64
     ensures { λ r. ⌜ Gives 4 (recordTold (recordAt (now (bytes .entry)) at)) (now (told .entry)) r (now (told .exit)) ⌝ }
 {
-    let answer = wire::record_at(bytes, at);
+    let answer = records::record_at(bytes, at);
     tell_record(answer, told)
 }
 
@@ -43,7 +43,7 @@ pub extern "C" fn pelohuaki_read(
     let mut held_codes = [0u8; Question::NODES];
     let mut held_coefficients = [0i32; Question::COEFFICIENTS];
     let mut held_constants = [0i32; Question::ATOMS];
-    match wire::read_parts(
+    match reading::read_parts(
         bytes,
         &mut held_codes,
         &mut held_coefficients,
@@ -86,7 +86,7 @@ pub extern "C" fn pelohuaki_write(
         &mut all_coefficients,
         &mut all_constants,
     );
-    let answer = wire::write_parts(n, &all_codes, &all_coefficients, &all_constants, bytes);
+    let answer = writing::write_parts(n, &all_codes, &all_coefficients, &all_constants, bytes);
     tell_written(answer, told)
 }
 

@@ -1,4 +1,4 @@
--- What the walks share of a place that is passed by value: what it owns, which can be copied, what its bytes own of that, and the call of `wire::record_at` on its fields. All that is known of `record_at` is that it meets its contract.
+-- What the walks share of a place that is passed by value: what it owns, which can be copied, what its bytes own of that, and the call of `records::record_at` on its fields. All that is known of `record_at` is that it meets its contract.
 use mathlib.Core.Path.{_≡_, refl}
 use Prim.Native.Nat.{_<_, _^_}
 use mathlib.Core.List.{[], _∷_}
@@ -33,7 +33,7 @@ use denote.Triple.Spec.{tripleOf}
 use denote.Triple.Clauses.{ensured, lasts}
 use Rattle.scope.specs.declared.RecordAnswer.{RecordAnswer}
 use Rattle.scope.specs.Wire.{recordAt}
-use Rattle.wire.proofs.record_at as step
+use Rattle.records.proofs.record_at as step
 use Rattle.place.specs.declared.Place.{Place}
 use Rattle.place.proofs.Place as T
 use Rattle.place.proofs.Place.Laws as T′
@@ -51,13 +51,13 @@ v d = sliceVal (d .bytes .ptr) (length (d .bytes .now))
 
 module _ (κ : Lft) where
   -- the struct's type and laws, and a place's fields' values
-  abbrev pub D : Declared
-  D = T.the-type (namedLft 1 0 tt (κ, tt))
+  abbrev pub placeType : Declared
+  placeType = T.the-type (namedLft 1 0 tt (κ, tt))
 
-  abbrev pub L : LL.Laws D
+  abbrev pub L : LL.Laws placeType
   L = T′.the-laws (namedLft 1 0 tt (κ, tt))
 
-  abbrev pub vd : Place → Values (D .parts)
+  abbrev pub vd : Place → Values (placeType .parts)
   vd d = (d .bytes, (d .at, tt))
 
   abbrev pub Own : Place → Fml
@@ -65,20 +65,20 @@ module _ (κ : Lft) where
 
 module _ {M : Type 1} (𝓤 : URA M) (H : Heap 𝓤) (A : Atoms 𝓤) (W : Given 𝓤 H A) (κ : Lft) (d : Place) where
   pub twice : ent 𝓤 (sem 𝓤 H A (Own κ d)) (sep 𝓤 (sem 𝓤 H A (Own κ d)) (sem 𝓤 H A (Own κ d)))
-  twice = LL.copy (D κ) (T′.the-copy (namedLft 1 0 tt (κ, tt))) 𝓤 H A W .twice d (mach d ∷ [])
+  twice = LL.copy (placeType κ) (T′.the-copy (namedLft 1 0 tt (κ, tt))) 𝓤 H A W .twice d (mach d ∷ [])
 
   -- what the place owns gives what its bytes own, and is kept
   pub bytes-out : ent 𝓤 (sem 𝓤 H A (Own κ d)) (sep 𝓤 (sem 𝓤 H A (ShrSlice (named 0) κ u8 .own (d .bytes) (v d ∷ []))) (sem 𝓤 H A (Own κ d)))
   bytes-out =
       qed W (‵ (Own κ d) ∷ []) ∵ use1 W (‵ (Own κ d) ⊛ ‵ (Own κ d)) twice $ split ! $
-      use1 W (given (mach d ∷ [] ≡ mach d ∷ []) (‵ (all-own (D κ .parts) (L κ) (vd κ d)))) (own-open 𝓤 H A W (D κ) (L κ) (vd κ d) (mach d)) $ learn ! (λ _.
-      use1 W (‵ (ownAt (D κ .parts) (L κ) 0 (d .bytes)) ⊛ ‵ (rest (D κ .parts) (L κ) 0 (vd κ d))) (own-out 𝓤 H A W (D κ .parts) (L κ) 0 (vd κ d)) $ split ! $
+      use1 W (given (mach d ∷ [] ≡ mach d ∷ []) (‵ (all-own (placeType κ .parts) (L κ) (vd κ d)))) (own-open 𝓤 H A W (placeType κ) (L κ) (vd κ d) (mach d)) $ learn ! (λ _.
+      use1 W (‵ (ownAt (placeType κ .parts) (L κ) 0 (d .bytes)) ⊛ ‵ (rest (placeType κ .parts) (L κ) 0 (vd κ d))) (own-out 𝓤 H A W (placeType κ .parts) (L κ) 0 (vd κ d)) $ split ! $
       move ! (1 ∷ []) $ drop ! $ frame ! $ done !)
 
 -- ---- the call of `record_at`
 
-abbrev pub found : Place → RecordAnswer
-found d = recordAt (now (d .bytes)) (d .at)
+abbrev pub recordHere : Place → RecordAnswer
+recordHere d = recordAt (now (d .bytes)) (d .at)
 
 module _ {M : Type 1} (𝓤 : URA M) (H : Heap 𝓤) (A : Atoms 𝓤) (mem : Memory → SProp 𝓤) (run : Routine → Fun 𝓤) where
   -- the contract that the walks cite
@@ -94,8 +94,8 @@ module _ {M : Type 1} (𝓤 : URA M) (H : Heap 𝓤) (A : Atoms 𝓤) (mem : Mem
   to = (((κ, tt), (q, tt), tt, (d .bytes, (d .at, tt)), passed), tt)
 
   -- of the callee's `ensured`, the clause alone: it has no `&mut`, so what is said of last values is dropped
-  pub said : (r : RecordAnswer) → ent 𝓤 (ensured 𝓤 H A step.ended (step.clauses 𝓤 H A mem run) (κ, tt) (d .bytes, (d .at, tt)) tt r) (fact 𝓤 (r ≡ found d))
-  said r = exE 𝓤 _ (λ ws. snd∗ 𝓤 (sem 𝓤 H A (lasts step.ended (κ, tt) (d .bytes, (d .at, tt)) ws)) (fact 𝓤 (r ≡ found d)))
+  pub said : (r : RecordAnswer) → ent 𝓤 (ensured 𝓤 H A step.ended (step.clauses 𝓤 H A mem run) (κ, tt) (d .bytes, (d .at, tt)) tt r) (fact 𝓤 (r ≡ recordHere d))
+  said r = exE 𝓤 _ (λ ws. snd∗ 𝓤 (sem 𝓤 H A (lasts step.ended (κ, tt) (d .bytes, (d .at, tt)) ws)) (fact 𝓤 (r ≡ recordHere d)))
 
   module _ (W : Given 𝓤 H A) where
     asked : ent 𝓤 (onEntry 𝓤 H A step.signature (κ, tt) (q, tt) (d .bytes, (d .at, tt)) passed) (RecordAt 𝓤 H A mem run .pre to)

@@ -8,7 +8,7 @@ use mathlib.Core.List.{List}
 use borrow.Author.Tests.{le-leb, lt-leb}
 use lib.ListN.{length}
 use Rattle.scope.specs.declared.RecordAnswer.{RecordAnswer}
-use Rattle.scope.specs.Refusals.{refusal, firstRefusal}
+use Rattle.scope.specs.Refusals.{BYTES-END, refusal, firstRefusal}
 use Rattle.scope.specs.Wire.{lengthAt, kindAt, recordAt}
 use Rattle.place.specs.Steps.{movedTo, startBy, lenBy}
 
@@ -21,7 +21,7 @@ module _ (b : List ℕ) (at : ℕ) where
   unfolding recordAt firstRefusal
   whole k = let h : at + 4 ≤ length b = omega arith in simp (le-leb _ _ h, le-leb _ _ k)
 
-  pub short : length b < end → recordAt b at ≡ RecordAnswer.Refused (refusal 1 at)
+  pub short : length b < end → recordAt b at ≡ RecordAnswer.Refused (refusal BYTES-END at)
   unfolding recordAt firstRefusal
   short k =
       by-cases (decLt (length b) (at + 4)) (λ h. simp (lt-leb _ _ h))

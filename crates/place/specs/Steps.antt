@@ -5,7 +5,7 @@ use mathlib.Core.List.{List}
 use denote.Ref.{now}
 use Rattle.scope.specs.declared.RecordAnswer.{RecordAnswer}
 use Rattle.scope.specs.Wire.{recordAt}
-use Rattle.wire.specs.Steps.{StretchOf}
+use Rattle.records.specs.Bodies.{StretchOf}
 use Rattle.place.specs.declared.Place.{Place}
 use Rattle.place.specs.declared.Step.{Step}
 
@@ -27,7 +27,7 @@ lenBy (RecordAnswer.Record kind start len next) = len
 lenBy (RecordAnswer.Refused r) = 0
 
 -- what a step from a place gives
-pub record Stepped (p : Place) (s : Step) : Type 0 where
+pub record PlaceStepped (p : Place) (s : Step) : Type 0 where
   pub sameBytes : s .place .bytes ≡ p .bytes
   pub moved : s .place .at ≡ movedTo (now (p .bytes)) (p .at)
   pub answered : s .answer ≡ recordAt (now (p .bytes)) (p .at)

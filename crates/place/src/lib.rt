@@ -2,11 +2,11 @@
 // The struct holds the slice, so each function over it is thin, calls functions on plain slices, and is proved by hand, statement by statement.
 ghost use mathlib.Core.Path.{_≡_};
 ghost use Rattle.scope.specs.Wire.{recordAt};
-ghost use Rattle.wire.specs.Steps.{BodyOf};
-ghost use Rattle.place.specs.Steps.{movedBy, startBy, lenBy, Stepped};
+ghost use Rattle.records.specs.Bodies.{BodyOf};
+ghost use Rattle.place.specs.Steps.{movedBy, startBy, lenBy, PlaceStepped};
+use records::body;
+use records::record_at;
 use scope::RecordAnswer;
-use wire::body;
-use wire::record_at;
 
 pub struct Place<'a> {
     pub bytes: &'a [u8],
@@ -65,7 +65,7 @@ fn body_of<'a>(bytes: &'a [u8], answer: RecordAnswer) -> &'a [u8]
 
 // Moves the place past the record that is there, and hands back its body.
 pub fn next_record<'a>(place: Place<'a>) -> Step<'a>
-    ensures { λ r. ⌜ Stepped (place .entry) r ⌝ }
+    ensures { λ r. ⌜ PlaceStepped (place .entry) r ⌝ }
 {
     let answer = record_at(place.bytes, place.at);
     let body = body_of(place.bytes, answer);

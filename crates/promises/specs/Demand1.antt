@@ -4,7 +4,7 @@
 -- `requires` (Tied), and each is proved to end. `Octets` and `Sized` are what the code's types say of every value: bytes below 256, arrays of their lengths.
 use mathlib.Core.Path.{_≡_, refl, sym, ap, _∙_, subst}
 use mathlib.Core.Logic.{_↔_, _⊎_, inl, inr, ⊎-elim, _≢_, Iff·trans}
-use mathlib.Core.Bool.{Bool, true, false, _&&_}
+use mathlib.Core.Bool.{Bool, true, false}
 use mathlib.Core.Option.{Option, none, some}
 use mathlib.Core.List.{List, [], _∷_, _++_}
 use Prim.Native.Nat.{ℕ, _+_, _-_, _≤_, _<_}
@@ -24,31 +24,31 @@ use Rattle.scope.specs.declared.DecideAnswer.{DecideAnswer}
 use Rattle.scope.specs.declared.BuildAnswer.{BuildAnswer}
 use Rattle.scope.specs.declared.SpellAnswer.{SpellAnswer}
 use Rattle.scope.specs.Whole.{atFront}
-use Rattle.scope.specs.Sizes.{mostSpelled, variablesFit}
-use Rattle.scope.specs.Refusals.{Check, check, refusal, firstRefusal, Progress, stopped, going, ended}
-use Rattle.scope.specs.Wire.{kindAt, lengthAt, headerThere, bodyThere, recordOr, recordAt, Reading, Ended, readFrom, readHeld}
+use Rattle.scope.specs.Refusals.{BYTES-END, TOO-SHORT, VALUES, Check, check, refusal, firstRefusal, Progress, stopped, going, ended}
+use Rattle.scope.specs.Wire.{kindAt, lengthAt, headerThere, bodyThere, recordOr, recordAt, Reading, Ended, readFrom, readHeld, headChecks, nodeChecks, endChecks, recordChecks}
 use Rattle.scope.specs.Writing.{Walk, written, Wrote, fitted, wroteOf, wrote}
-use Rattle.scope.specs.Words.{Word, lettersFit, value, valueOr, spelt}
+use Rattle.scope.specs.Words.{Word, value, valueOr, spelt, spellChecks}
 use Rattle.scope.specs.Tree.{questionBytes, trueFor, IsQuestion, IsHeld}
-use Rattle.scope.specs.Running.{tableFits, saysYes, truthOf, truthOr, ran}
+use Rattle.scope.specs.Running.{saysYes, truthOf, truthOr, ran, runChecks}
 use Rattle.scope.specs.Judging.{judged}
 use Rattle.scope.specs.Deciding.{Decided, decided}
 use Rattle.scope.specs.Building.{Built, built}
-use Rattle.theory.specs.Checks.{Passed, none-iff-passed, FirstFailing, some-iff-failing}
-use Rattle.theory.specs.ReadingSteps.{headChecks, nodeChecks, endChecks}
-use Rattle.theory.specs.Stopped.{StoppedAt, at-head, at-node, at-end, stopped-iff, never-going, LeftBytes}
-use Rattle.theory.specs.Answers.{refused-iff}
-use Rattle.theory.specs.WritingStopped.{RefusedAt, written-stopped-iff, never-half-written}
-use Rattle.theory.specs.Decided as deciding
-use Rattle.theory.specs.Built as building
-use Rattle.theory.specs.Octets.{Octets}
-use Rattle.theory.specs.Held.{Sized}
-use Rattle.theory.specs.TreeParsed.{question-read, accepted-iff-question}
-use Rattle.theory.specs.TreeWritten.{written-question, held-written}
-use Rattle.theory.specs.Agreement.{Taken}
-use Rattle.theory.specs.Questions.{heldIn, not-both, Read, a-question, refused-by, either-way, judged-unread, judged-as, judged-others}
-use Rattle.wire.specs.declared.ReadPart.{ReadPart}
-use Rattle.wire.specs.Answers.{partRead}
+use Rattle.scope.specs.Sizes.{mostBytes}
+use Rattle.theory.specs.Wire.Buffers.{written-short}
+use Rattle.theory.specs.Wire.Checks.{Passed, none-iff-passed, FirstFailing, some-iff-failing}
+use Rattle.theory.specs.Wire.Stopped.{StoppedAt, at-head, at-node, at-end, stopped-iff, never-going, LeftBytes}
+use Rattle.theory.specs.Wire.Answers.{refused-iff}
+use Rattle.theory.specs.Wire.WritingStopped.{RefusedAt, written-stopped-iff, never-half-written}
+use Rattle.theory.specs.Calls.Decided as deciding
+use Rattle.theory.specs.Calls.Built as building
+use Rattle.theory.specs.Wire.Octets.{Octets}
+use Rattle.theory.specs.Wire.Held.{Sized}
+use Rattle.theory.specs.Trees.Parsed.{question-read, accepted-iff-question}
+use Rattle.theory.specs.Trees.Written.{written-question, held-written}
+use Rattle.theory.specs.Calls.Agreement.{Taken}
+use Rattle.theory.specs.Calls.Questions.{heldIn, not-both, Read, a-question, refused-by, either-way, judged-unread, judged-as, judged-others}
+use Rattle.reading.specs.declared.ReadPart.{ReadPart}
+use Rattle.reading.specs.Answers.{partRead}
 use Rattle.promises.specs.Calls.{RecordOutcome, ReadOutcome, PartOutcome, JudgeOutcome, RunOutcome, SpellOutcome, WriteOutcome, DecideOutcome, BuildOutcome}
 
 -- ---- bytes that break a rule
@@ -106,10 +106,7 @@ module _ (bytes : List ℕ) where
   pub breaks-once : (ρ σ : Refusal) → Breaks bytes ρ → Breaks bytes σ → ρ ≡ σ
   breaks-once ρ σ b c = let x = refused-iff bytes ρ .1 b in let y = refused-iff bytes σ .1 c in cc
 
--- a bare step refuses only by 1, at the record
-abbrev pub recordChecks : List ℕ → ℕ → List Check
-recordChecks bytes at = check 1 at (headerThere bytes at) ∷ check 1 at (bodyThere bytes at) ∷ []
-
+-- a bare step refuses only where the bytes end, at the record
 module _ (bytes : List ℕ) (at : ℕ) where
   pub record-refused : {r : RecordAnswer} → RecordOutcome bytes at r → (ρ : Refusal) → (r ≡ RecordAnswer.Refused ρ) ↔ FirstFailing (recordChecks bytes at) ρ
   unfolding recordAt
@@ -125,11 +122,11 @@ module _ (bytes : List ℕ) (at : ℕ) where
   unfolding recordAt
   record-there out p = rw (out, none-iff-passed (recordChecks bytes at) .1 p)
 
-  pub record-cut : {r : RecordAnswer} → RecordOutcome bytes at r → (ρ : Refusal) → r ≡ RecordAnswer.Refused ρ → ρ ≡ refusal 1 at
+  pub record-cut : {r : RecordAnswer} → RecordOutcome bytes at r → (ρ : Refusal) → r ≡ RecordAnswer.Refused ρ → ρ ≡ refusal BYTES-END at
   unfolding recordAt firstRefusal
   record-cut out ρ e = go (headerThere bytes at) (bodyThere bytes at) (sym out ∙ e)
     where
-      go : (x y : Bool) → recordOr (firstRefusal (check 1 at x ∷ check 1 at y ∷ [])) bytes at ≡ RecordAnswer.Refused ρ → ρ ≡ refusal 1 at
+      go : (x y : Bool) → recordOr (firstRefusal (check BYTES-END at x ∷ check BYTES-END at y ∷ [])) bytes at ≡ RecordAnswer.Refused ρ → ρ ≡ refusal BYTES-END at
       go true true e = let z : _≡_ {A = ℕ} 0 1 = cc in absurd (omega arith)
       go true false e = cc
       go false y e = cc
@@ -179,21 +176,21 @@ breaks-number bytes ρ = ⊎-elim stops (λ l. rw (l .told) six)
     stops : StoppedAt bytes 0 ρ → (1 ≤ ρ .number) × (ρ .number ≤ 6)
     stops (at-head f) = failing-number (headChecks bytes 0) ρ (one, (two, (three, (one, (four, tt))))) f
     stops (at-node s depth due h d f) = failing-number (nodeChecks bytes depth s) ρ (one, (two, (three, (one, (five, (five, (five, (four, tt)))))))) f
-    stops (at-end s h d f) = failing-number (endChecks bytes (s .place)) ρ (one, (two, (three, tt))) f
+    stops (at-end s h d f) = failing-number (endChecks bytes (s .place)) ρ (one, (two, (three, (one, tt)))) f
 
 -- deciding
 module _ (bytes : List ℕ) (keys : List ℤ) (path word : List ℕ) where
   pub decided-refused : (ρ : Refusal) → (decided bytes keys path word .answer ≡ DecideAnswer.Refused ρ) ↔ (readHeld bytes .answer ≡ ReadAnswer.Refused ρ)
-  decided-refused ρ = (by-answer bytes (λ q e x. absurd (deciding.says-not-refused bytes keys path word q e ρ x)) said, back)
+  decided-refused ρ = (by-answer bytes (λ q e x. absurd (deciding.decide-says-not-refused bytes keys path word q e ρ x)) said, back)
     where
       said : (σ : Refusal) → readHeld bytes .answer ≡ ReadAnswer.Refused σ → decided bytes keys path word .answer ≡ DecideAnswer.Refused ρ → readHeld bytes .answer ≡ ReadAnswer.Refused ρ
       said σ e x =
-          let y = ap (λ (d : Decided). d .answer) (deciding.refused-unchanged bytes keys path word σ e) in
+          let y = ap (λ (d : Decided). d .answer) (deciding.decide-refused-unchanged bytes keys path word σ e) in
           let s : σ ≡ ρ = cc in
           e ∙ ap ReadAnswer.Refused s
 
       back : readHeld bytes .answer ≡ ReadAnswer.Refused ρ → decided bytes keys path word .answer ≡ DecideAnswer.Refused ρ
-      back e = ap (λ (d : Decided). d .answer) (deciding.refused-unchanged bytes keys path word ρ e)
+      back e = ap (λ (d : Decided). d .answer) (deciding.decide-refused-unchanged bytes keys path word ρ e)
 
   pub decide-refused : {o : Decided} → DecideOutcome bytes keys path word o → (ρ : Refusal) → (o .answer ≡ DecideAnswer.Refused ρ) ↔ Breaks bytes ρ
   decide-refused out ρ = rw (out .answer) (Iff·trans (decided-refused ρ) (refused-iff bytes ρ))
@@ -204,16 +201,16 @@ module _ (bytes : List ℕ) (keys : List ℤ) (path word : List ℕ) where
 -- building
 module _ (bytes : List ℕ) (keys : List ℤ) (table : List ℕ) where
   pub built-refused : (ρ : Refusal) → (built bytes keys table .answer ≡ BuildAnswer.Refused ρ) ↔ (readHeld bytes .answer ≡ ReadAnswer.Refused ρ)
-  built-refused ρ = (by-answer bytes (λ q e x. absurd (building.says-not-refused bytes keys table q e ρ x)) said, back)
+  built-refused ρ = (by-answer bytes (λ q e x. absurd (building.build-says-not-refused bytes keys table q e ρ x)) said, back)
     where
       said : (σ : Refusal) → readHeld bytes .answer ≡ ReadAnswer.Refused σ → built bytes keys table .answer ≡ BuildAnswer.Refused ρ → readHeld bytes .answer ≡ ReadAnswer.Refused ρ
       said σ e x =
-          let y = ap (λ (b : Built). b .answer) (building.refused-unchanged bytes keys table σ e) in
+          let y = ap (λ (b : Built). b .answer) (building.build-refused-unchanged bytes keys table σ e) in
           let s : σ ≡ ρ = cc in
           e ∙ ap ReadAnswer.Refused s
 
       back : readHeld bytes .answer ≡ ReadAnswer.Refused ρ → built bytes keys table .answer ≡ BuildAnswer.Refused ρ
-      back e = ap (λ (b : Built). b .answer) (building.refused-unchanged bytes keys table ρ e)
+      back e = ap (λ (b : Built). b .answer) (building.build-refused-unchanged bytes keys table ρ e)
 
   pub build-refused : {o : Built} → BuildOutcome bytes keys table o → (ρ : Refusal) → (o .answer ≡ BuildAnswer.Refused ρ) ↔ Breaks bytes ρ
   build-refused out ρ = rw (out .answer) (Iff·trans (built-refused ρ) (refused-iff bytes ρ))
@@ -222,7 +219,7 @@ module _ (bytes : List ℕ) (keys : List ℤ) (table : List ℕ) where
 pub record OtherValues (bytes values : List ℕ) (ρ : Refusal) : Type 0 where
   pub question : IsQuestion bytes
   pub others : ¬ Taken (question .n) values
-  pub told : ρ ≡ refusal 9 0
+  pub told : ρ ≡ refusal VALUES 0
 
 pub truth-not-refused : (b : Bool) (ρ : Refusal) → truthOf b ≢ TruthAnswer.Refused ρ
 truth-not-refused true ρ e = let z : _≡_ {A = ℕ} 0 1 = cc in omega arith
@@ -241,13 +238,10 @@ judge-refused bytes values octets out ρ =
     said (a-question q) x =
         let n : ¬ Taken (q .n) values = λ t. truth-not-refused (trueFor (q .tree) values) ρ (sym (judged-as bytes values q t) ∙ x) in
         let z = judged-others bytes values q n in
-        let s : ρ ≡ refusal 9 0 = cc in
+        let s : ρ ≡ refusal VALUES 0 = cc in
         inr (record { question = q; others = n; told = s })
 
--- running: 4 for n, 11 for the table, 10 for a letter, in this order
-abbrev pub runChecks : ℕ → List ℕ → Word → List Check
-runChecks n cells word = check 4 0 (variablesFit n) ∷ check 11 0 (tableFits n cells) ∷ check 10 0 (lettersFit n word) ∷ []
-
+-- running: n, the table, the letters, in this order
 truth-or : (o : Option Refusal) (b : Bool) (ρ : Refusal) → (truthOr o b ≡ TruthAnswer.Refused ρ) ↔ (o ≡ some ρ)
 truth-or none b ρ = (λ e. absurd (truth-not-refused b ρ e), λ e. let z : _≡_ {A = ℕ} 0 1 = cc in absurd (omega arith))
 truth-or (some σ) b ρ = (λ e. cc, λ e. cc)
@@ -261,11 +255,7 @@ module _ (n : ℕ) (cells : List ℕ) (word : Word) where
   unfolding ran
   run-answered out p = rw (out, none-iff-passed (runChecks n cells word) .1 p)
 
--- spelling: 4, then 10, then 9
-abbrev pub spellChecks : ℕ → ℕ → Word → List Check
-spellChecks n variable word =
-    check 4 0 (variablesFit n) ∷ check 4 0 (leb 1 variable && leb variable n) ∷ check 10 0 (lettersFit n word) ∷ check 9 0 (leb (length word) mostSpelled) ∷ []
-
+-- spelling: n and the variable, the letters, the length
 value-or : (o : Option Refusal) (v : ℕ) (ρ : Refusal) → (valueOr o v ≡ SpellAnswer.Refused ρ) ↔ (o ≡ some ρ)
 value-or none v ρ = (λ e. let z : _≡_ {A = ℕ} 0 1 = cc in absurd (omega arith), λ e. let z : _≡_ {A = ℕ} 0 1 = cc in absurd (omega arith))
 value-or (some σ) v ρ = (λ e. cc, λ e. cc)
@@ -285,7 +275,7 @@ pub record TooLong (q : Question) (buffer : List ℕ) (ρ : Refusal) : Type 0 wh
   pub walk : Walk
   pub accepted : written q ≡ ended walk
   pub long : length buffer < length (walk .bytes)
-  pub told : ρ ≡ refusal 8 0
+  pub told : ρ ≡ refusal TOO-SHORT 0
 
 -- it is a question's held value, and its bytes, so many, have room
 pub record WrittenFor (q : Question) (buffer : List ℕ) (count : ℕ) : Type 0 where
@@ -331,6 +321,11 @@ module _ (q : Question) (buffer : List ℕ) where
 
   pub write-refused : {o : Wrote} → WriteOutcome q buffer o → (ρ : Refusal) → (o .answer ≡ WriteAnswer.Refused ρ) ↔ (RefusedAt q ρ ⊎ TooLong q buffer ρ)
   write-refused out ρ = rw (out .answer) (wrote-refused-iff ρ)
+
+  -- a buffer of `mostBytes`, 489, is long enough for every question: writing is then refused for what the held question breaks alone
+  pub bytes-suffice : Sized q → mostBytes ≤ length buffer → {o : Wrote} → WriteOutcome q buffer o → (ρ : Refusal) → (o .answer ≡ WriteAnswer.Refused ρ) ↔ RefusedAt q ρ
+  bytes-suffice sized room out ρ =
+      (λ e. ⊎-elim (λ s. s) (λ t. absurd (omega (arith, t .long, written-short q (t .walk) sized (t .accepted)))) (write-refused out ρ .0 e), λ s. write-refused out ρ .1 (inl s))
 
   -- a held value is written exactly if it is a question's and its bytes have room; they then stand at the front of the buffer
   pub write-written : Sized q → {o : Wrote} → WriteOutcome q buffer o → (count : ℕ) → (o .answer ≡ WriteAnswer.Written count) ↔ WrittenFor q buffer count

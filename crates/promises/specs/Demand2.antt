@@ -23,30 +23,29 @@ use Rattle.scope.specs.Question.{atomCount}
 use Rattle.scope.specs.Refusals.{ended}
 use Rattle.scope.specs.Wire.{readHeld}
 use Rattle.scope.specs.Writing.{Walk, written, Wrote, wrote}
-use Rattle.scope.specs.Words.{Word, letters, spelled, Over}
+use Rattle.scope.specs.Words.{Word, letters, spelled, Over, spellChecks}
 use Rattle.scope.specs.Tree.{trueFor, IsQuestion}
 use Rattle.scope.specs.Bound.{bound}
 use Rattle.scope.specs.Numbering.{machineOf, after}
 use Rattle.scope.specs.Running.{truthOf}
 use Rattle.scope.specs.Deciding.{decideRoom, Decided}
-use Rattle.theory.specs.Checks.{and-both, Passed}
-use Rattle.theory.specs.Octets.{Octets}
-use Rattle.theory.specs.Held.{Sized}
-use Rattle.theory.specs.WrittenRead.{WrittenBack, written-read}
-use Rattle.theory.specs.Buffers.{wrote-back}
-use Rattle.theory.specs.Spelling.{wordOfValues, spelled-at, letters-fit}
-use Rattle.theory.specs.Variables.{accepted-variables}
-use Rattle.theory.specs.Accepted.{WithinLimits, accepted-within}
-use Rattle.theory.specs.Answers.{atom-count}
-use Rattle.theory.specs.TreeParsed.{question-read}
-use Rattle.theory.specs.Decided as deciding
-use Rattle.theory.specs.Decided.{RowFound, letters-fewer, NeverAt, NoRoomAt}
-use Rattle.theory.specs.Agreement.{truth-yes, Taken, judged-accepted, judged-machine}
-use Rattle.theory.specs.Questions as questions
-use Rattle.theory.specs.Questions.{heldIn, roomFor, Guarded, short-as, never-as, HandsOver, found-hands-over, judged-as}
+use Rattle.theory.specs.Wire.Checks.{and-both, Passed}
+use Rattle.theory.specs.Wire.Octets.{Octets}
+use Rattle.theory.specs.Wire.Held.{Sized}
+use Rattle.theory.specs.Wire.WrittenRead.{WrittenBack, written-read}
+use Rattle.theory.specs.Wire.Buffers.{wrote-back}
+use Rattle.theory.specs.Words.Spelling.{wordOfValues, spelled-at, letters-fit}
+use Rattle.theory.specs.Wire.Accepted.{WithinLimits, accepted-within, accepted-variables}
+use Rattle.theory.specs.Wire.Answers.{atom-count}
+use Rattle.theory.specs.Trees.Parsed.{question-read}
+use Rattle.theory.specs.Calls.Decided as deciding
+use Rattle.theory.specs.Calls.Decided.{RowFound, letters-fewer, NeverAt, NoRoomAt}
+use Rattle.theory.specs.Calls.Agreement.{truth-yes, Taken, judged-accepted, judged-machine}
+use Rattle.theory.specs.Calls.Questions as questions
+use Rattle.theory.specs.Calls.Questions.{heldIn, roomFor, Guarded, short-as, never-as, HandsOver, found-hands-over, judged-as}
 use Rattle.promises.specs.Calls.{ReadOutcome, JudgeOutcome, SpellOutcome, WriteOutcome, DecideOutcome}
 use Rattle.promises.specs.Once.{write-is}
-use Rattle.promises.specs.Demand1.{question-not-refused, spellChecks, spell-answered}
+use Rattle.promises.specs.Demand1.{question-not-refused, spell-answered}
 
 -- ---- "It is right by whole-number arithmetic and by the automaton that Boudet and Comon published."
 -- (That the automaton, step by step and for every word, says what whole-number arithmetic does is `step-says` and `word-means` of theory.)
@@ -150,10 +149,10 @@ module _ (bytes : List ℕ) (keys : List ℤ) (path word : List ℕ) {o : Decide
         go (DecideAnswer.Refused ρ) e = absurd (question-not-refused bytes keys path word q out ρ e)
 
 -- the rows lent, by the cells lent
-pub rows-lent : {bytes : List ℕ} (q : IsQuestion bytes) (rows : ℕ) → rows ≤ mostStates → (keys : List ℤ) (path : List ℕ)
+pub decide-rows-lent : {bytes : List ℕ} (q : IsQuestion bytes) (rows : ℕ) → rows ≤ mostStates → (keys : List ℤ) (path : List ℕ)
     → rows * atomCount (heldIn q) ≤ length keys → rows * 2 ≤ length path → rows ≤ roomFor q keys path
 unfolding decideRoom
-rows-lent q rows few keys path k p =
+decide-rows-lent q rows few keys path k p =
     let m : 0 < atomCount (heldIn q) = some-atom q in
     omega (arith, le-div-iff-mul-le m .1 k, few, p)
 

@@ -19,15 +19,15 @@ use Rattle.scope.specs.Bound.{bound}
 use Rattle.scope.specs.Numbering.{machineOf}
 use Rattle.scope.specs.Building.{tableWidth, buildRoom, Built}
 use Rattle.scope.specs.Running.{truthOf, ran}
-use Rattle.theory.specs.Octets.{Octets}
-use Rattle.theory.specs.TreeParsed.{question-read}
-use Rattle.theory.specs.Spelling.{wordOfValues}
-use Rattle.theory.specs.Reachable.{AtMost}
-use Rattle.theory.specs.Deciding.{StatesAre}
-use Rattle.theory.specs.Built as building
-use Rattle.theory.specs.Agreement.{truth-yes, Taken, word-over, word-spells}
-use Rattle.theory.specs.Questions as questions
-use Rattle.theory.specs.Questions.{heldIn, rowsFor, table-answers}
+use Rattle.theory.specs.Wire.Octets.{Octets}
+use Rattle.theory.specs.Trees.Parsed.{question-read}
+use Rattle.theory.specs.Words.Spelling.{wordOfValues}
+use Rattle.theory.specs.Machine.Reachable.{AtMost}
+use Rattle.theory.specs.Calls.Deciding.{StatesAre}
+use Rattle.theory.specs.Calls.Built as building
+use Rattle.theory.specs.Calls.Agreement.{truth-yes, Taken, spelled-over, word-spells}
+use Rattle.theory.specs.Calls.Questions as questions
+use Rattle.theory.specs.Calls.Questions.{heldIn, rowsFor, table-answers}
 use Rattle.promises.specs.Calls.{JudgeOutcome, RunOutcome, BuildOutcome}
 use Rattle.promises.specs.Demand1.{truth-not-refused}
 use Rattle.promises.specs.Demand2.{some-atom, judge-is}
@@ -37,10 +37,10 @@ abbrev pub tableIn : ℕ → ℕ → List ℕ → List ℕ
 tableIn n states table₁ = take (states * tableWidth n) table₁
 
 -- the rows lent, by the cells lent
-pub rows-lent : {bytes : List ℕ} (q : IsQuestion bytes) (rows : ℕ) → rows ≤ mostStates → (keys : List ℤ) (table : List ℕ)
+pub build-rows-lent : {bytes : List ℕ} (q : IsQuestion bytes) (rows : ℕ) → rows ≤ mostStates → (keys : List ℤ) (table : List ℕ)
     → rows * atomCount (heldIn q) ≤ length keys → rows * tableWidth (q .n) ≤ length table → rows ≤ rowsFor q keys table
 unfolding buildRoom
-rows-lent q rows few keys table k t =
+build-rows-lent q rows few keys table k t =
     let m : 0 < atomCount (heldIn q) = some-atom q in
     let w : 0 < tableWidth (q .n) = omega arith in
     omega (arith, le-div-iff-mul-le m .1 k, le-div-iff-mul-le w .1 t, few)
@@ -63,7 +63,7 @@ module _ (bytes : List ℕ) (keys : List ℤ) (table : List ℕ) {o : Built} (ou
   module _ (q : IsQuestion bytes) where
     -- "For every accepted question, the table is built exactly if the rows lent, as 01 counts them, are at least the reachable states;"
     pub built-room : ((states : ℕ) × (o .answer ≡ BuildAnswer.Built states)) ↔ AtMost (machineOf (heldIn q)) (rowsFor q keys table)
-    built-room = rw (out .answer) (building.built-exactly bytes keys table (heldIn q) (question-read bytes q))
+    built-room = rw (out .answer) (building.held-built-exactly bytes keys table (heldIn q) (question-read bytes q))
 
     -- "rows equal to 01's bound, where that is at most 65,535, are always enough." (R is never more than 65,535)
     pub bound-builds : bound (heldIn q) ≤ rowsFor q keys table → (states : ℕ) × (o .answer ≡ BuildAnswer.Built states)
@@ -72,7 +72,7 @@ module _ (bytes : List ℕ) (keys : List ℤ) (table : List ℕ) {o : Built} (ou
     -- in cells
     pub bound-cells : bound (heldIn q) ≤ mostStates → bound (heldIn q) * atomCount (heldIn q) ≤ length keys → bound (heldIn q) * tableWidth (q .n) ≤ length table
         → (states : ℕ) × (o .answer ≡ BuildAnswer.Built states)
-    bound-cells few k t = bound-builds (rows-lent q (bound (heldIn q)) few keys table k t)
+    bound-cells few k t = bound-builds (build-rows-lent q (bound (heldIn q)) few keys table k t)
 
     -- "The table alone, run without the question on any word of its letters, short or long, says yes exactly if the naturals that the word
     -- spells satisfy the question."
@@ -97,4 +97,4 @@ module _ (bytes : List ℕ) (keys : List ℤ) (table : List ℕ) {o : Built} (ou
       table-judged values taken run judge =
           judge-is bytes values q taken judge
           ∙ ap (λ (xs : List ℕ). truthOf (trueFor (q .tree) xs)) (sym (word-spells (heldIn q) values taken))
-          ∙ sym (table-is (wordOfValues 40 values) (word-over (heldIn q) values taken) run)
+          ∙ sym (table-is (wordOfValues 40 values) (spelled-over (heldIn q) values taken) run)

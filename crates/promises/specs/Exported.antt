@@ -16,9 +16,9 @@ use Rattle.scope.specs.Tree.{IsQuestion}
 use Rattle.scope.specs.Numbering.{machineOf}
 use Rattle.scope.specs.Deciding.{decided}
 use Rattle.scope.specs.Building.{built}
-use Rattle.theory.specs.Octets.{Octets}
-use Rattle.theory.specs.Deciding.{StatesAre}
-use Rattle.theory.specs.Questions.{heldIn, rowsFor, Guarded, never-guarded, built-exactly}
+use Rattle.theory.specs.Wire.Octets.{Octets}
+use Rattle.theory.specs.Calls.Deciding.{StatesAre}
+use Rattle.theory.specs.Calls.Questions.{heldIn, rowsFor, Guarded, never-guarded, built-exactly}
 use Rattle.lent.specs.Told.{decideCells, buildCells}
 use Rattle.pelohuaki_c.proofs.pelohuaki_record_at.Reads as record-at
 use Rattle.pelohuaki_c.proofs.pelohuaki_read.Reads as read
@@ -102,73 +102,73 @@ SpellExported n variable word told o = spell.Post ([], ([], tt)) (n, (variable, 
 -- ---- whatever is lent, wherever it lies: nothing is asked of it, and what the contract says is such an outcome
 
 module _ (κ μ : Lft) (bytes told : Cells) (at : ℕ) where
-  pub record-any : record-at.Pre (κ, (μ, tt)) (bytes, (at, (told, tt)))
-  record-any = tt
+  pub exported-record-any : record-at.Pre (κ, (μ, tt)) (bytes, (at, (told, tt)))
+  exported-record-any = tt
 
-  pub record-tied : (number : ℕ) (told₁ : Cells) → record-at.Post (κ, (μ, tt)) (bytes, (at, (told, tt))) number (bytes, (at, (told₁, tt)))
+  pub exported-record-tied : (number : ℕ) (told₁ : Cells) → record-at.Post (κ, (μ, tt)) (bytes, (at, (told, tt))) number (bytes, (at, (told₁, tt)))
       → RecordExported (now bytes) at (now told) (record { number = number; told = now told₁ })
-  record-tied number told₁ p = p
+  exported-record-tied number told₁ p = p
 
 module _ (κ μ ν ξ ο : Lft) (bytes codes : Cells) (coefficients constants : SignedCells) (told : Cells) where
-  pub read-any : read.Pre (κ, (μ, (ν, (ξ, (ο, tt))))) (bytes, (codes, (coefficients, (constants, (told, tt)))))
-  read-any = tt
+  pub exported-read-any : read.Pre (κ, (μ, (ν, (ξ, (ο, tt))))) (bytes, (codes, (coefficients, (constants, (told, tt)))))
+  exported-read-any = tt
 
-  pub read-tied : (number : ℕ) (codes₁ : Cells) (coefficients₁ constants₁ : SignedCells) (told₁ : Cells)
+  pub exported-read-tied : (number : ℕ) (codes₁ : Cells) (coefficients₁ constants₁ : SignedCells) (told₁ : Cells)
       → read.Post (κ, (μ, (ν, (ξ, (ο, tt))))) (bytes, (codes, (coefficients, (constants, (told, tt))))) number (bytes, (codes₁, (coefficients₁, (constants₁, (told₁, tt)))))
       → ReadExported (now bytes) (now codes) (now coefficients) (now constants) (now told)
       (record { number = number; codes = now codes₁; coefficients = now coefficients₁; constants = now constants₁; told = now told₁ })
-  read-tied number codes₁ coefficients₁ constants₁ told₁ p = p
+  exported-read-tied number codes₁ coefficients₁ constants₁ told₁ p = p
 
 module _ (κ μ ν ξ ο : Lft) (n : ℕ) (codes : Cells) (coefficients constants : SignedCells) (bytes told : Cells) where
-  pub write-any : write.Pre (κ, (μ, (ν, (ξ, (ο, tt))))) (n, (codes, (coefficients, (constants, (bytes, (told, tt))))))
-  write-any = tt
+  pub exported-write-any : write.Pre (κ, (μ, (ν, (ξ, (ο, tt))))) (n, (codes, (coefficients, (constants, (bytes, (told, tt))))))
+  exported-write-any = tt
 
-  pub write-tied : (number : ℕ) (bytes₁ told₁ : Cells)
+  pub exported-write-tied : (number : ℕ) (bytes₁ told₁ : Cells)
       → write.Post (κ, (μ, (ν, (ξ, (ο, tt))))) (n, (codes, (coefficients, (constants, (bytes, (told, tt)))))) number (n, (codes, (coefficients, (constants, (bytes₁, (told₁, tt))))))
       → WriteExported n (now codes) (now coefficients) (now constants) (now bytes) (now told) (record { number = number; bytes = now bytes₁; told = now told₁ })
-  write-tied number bytes₁ told₁ p = p
+  exported-write-tied number bytes₁ told₁ p = p
 
 module _ (κ μ ν : Lft) (bytes values told : Cells) where
-  pub judge-any : judge.Pre (κ, (μ, (ν, tt))) (bytes, (values, (told, tt)))
-  judge-any = tt
+  pub exported-judge-any : judge.Pre (κ, (μ, (ν, tt))) (bytes, (values, (told, tt)))
+  exported-judge-any = tt
 
-  pub judge-tied : (number : ℕ) (told₁ : Cells) → judge.Post (κ, (μ, (ν, tt))) (bytes, (values, (told, tt))) number (bytes, (values, (told₁, tt)))
+  pub exported-judge-tied : (number : ℕ) (told₁ : Cells) → judge.Post (κ, (μ, (ν, tt))) (bytes, (values, (told, tt))) number (bytes, (values, (told₁, tt)))
       → JudgeExported (now bytes) (now values) (now told) (record { number = number; told = now told₁ })
-  judge-tied number told₁ p = p
+  exported-judge-tied number told₁ p = p
 
 module _ (κ μ ν ξ ο : Lft) (bytes : Cells) (keys : SignedCells) (path word told : Cells) where
-  pub decide-any : decide.Pre (κ, (μ, (ν, (ξ, (ο, tt))))) (bytes, (keys, (path, (word, (told, tt)))))
-  decide-any = tt
+  pub exported-decide-any : decide.Pre (κ, (μ, (ν, (ξ, (ο, tt))))) (bytes, (keys, (path, (word, (told, tt)))))
+  exported-decide-any = tt
 
-  pub decide-tied : (number : ℕ) (keys₁ : SignedCells) (path₁ word₁ told₁ : Cells)
+  pub exported-decide-tied : (number : ℕ) (keys₁ : SignedCells) (path₁ word₁ told₁ : Cells)
       → decide.Post (κ, (μ, (ν, (ξ, (ο, tt))))) (bytes, (keys, (path, (word, (told, tt))))) number (bytes, (keys₁, (path₁, (word₁, (told₁, tt)))))
       → DecideExported (now bytes) (now keys) (now path) (now word) (now told) (record { number = number; keys = now keys₁; path = now path₁; word = now word₁; told = now told₁ })
-  decide-tied number keys₁ path₁ word₁ told₁ p = p
+  exported-decide-tied number keys₁ path₁ word₁ told₁ p = p
 
 module _ (κ μ ν ξ : Lft) (bytes : Cells) (keys : SignedCells) (table told : Cells) where
-  pub build-any : build.Pre (κ, (μ, (ν, (ξ, tt)))) (bytes, (keys, (table, (told, tt))))
-  build-any = tt
+  pub exported-build-any : build.Pre (κ, (μ, (ν, (ξ, tt)))) (bytes, (keys, (table, (told, tt))))
+  exported-build-any = tt
 
-  pub build-tied : (number : ℕ) (keys₁ : SignedCells) (table₁ told₁ : Cells)
+  pub exported-build-tied : (number : ℕ) (keys₁ : SignedCells) (table₁ told₁ : Cells)
       → build.Post (κ, (μ, (ν, (ξ, tt)))) (bytes, (keys, (table, (told, tt)))) number (bytes, (keys₁, (table₁, (told₁, tt))))
       → BuildExported (now bytes) (now keys) (now table) (now told) (record { number = number; keys = now keys₁; table = now table₁; told = now told₁ })
-  build-tied number keys₁ table₁ told₁ p = p
+  exported-build-tied number keys₁ table₁ told₁ p = p
 
 module _ (κ μ ν : Lft) (n : ℕ) (cells word told : Cells) where
-  pub run-any : run.Pre (κ, (μ, (ν, tt))) (n, (cells, (word, (told, tt))))
-  run-any = tt
+  pub exported-run-any : run.Pre (κ, (μ, (ν, tt))) (n, (cells, (word, (told, tt))))
+  exported-run-any = tt
 
-  pub run-tied : (number : ℕ) (told₁ : Cells) → run.Post (κ, (μ, (ν, tt))) (n, (cells, (word, (told, tt)))) number (n, (cells, (word, (told₁, tt))))
+  pub exported-run-tied : (number : ℕ) (told₁ : Cells) → run.Post (κ, (μ, (ν, tt))) (n, (cells, (word, (told, tt)))) number (n, (cells, (word, (told₁, tt))))
       → RunExported n (now cells) (now word) (now told) (record { number = number; told = now told₁ })
-  run-tied number told₁ p = p
+  exported-run-tied number told₁ p = p
 
 module _ (κ μ : Lft) (n variable : ℕ) (word told : Cells) where
-  pub spell-any : spell.Pre (κ, (μ, tt)) (n, (variable, (word, (told, tt))))
-  spell-any = tt
+  pub exported-spell-any : spell.Pre (κ, (μ, tt)) (n, (variable, (word, (told, tt))))
+  exported-spell-any = tt
 
-  pub spell-tied : (number : ℕ) (told₁ : Cells) → spell.Post (κ, (μ, tt)) (n, (variable, (word, (told, tt)))) number (n, (variable, (word, (told₁, tt))))
+  pub exported-spell-tied : (number : ℕ) (told₁ : Cells) → spell.Post (κ, (μ, tt)) (n, (variable, (word, (told, tt)))) number (n, (variable, (word, (told₁, tt))))
       → SpellExported n variable (now word) (now told) (record { number = number; told = now told₁ })
-  spell-tied number told₁ p = p
+  exported-spell-tied number told₁ p = p
 
 -- ---- any two coincide
 

@@ -16,15 +16,15 @@ use Rattle.scope.specs.Writing.{Wrote}
 use Rattle.scope.specs.Tree.{trueFor, IsQuestion}
 use Rattle.scope.specs.Deciding.{Decided}
 use Rattle.scope.specs.Building.{tableWidth, Built}
-use Rattle.theory.specs.TreeParsed.{question-read}
-use Rattle.theory.specs.Decided as deciding
-use Rattle.theory.specs.Decided.{RowFound}
-use Rattle.theory.specs.Built as building
-use Rattle.theory.specs.Building.{tableOf}
-use Rattle.theory.specs.Areas.{statesTold, builtTold, Filled, keyCell, pathCell, decided-keys, decided-path, built-keys}
-use Rattle.theory.specs.Lengths.{decided-keys-length, decided-path-length, decided-word-length, built-keys-length, built-table-length, wrote-length}
-use Rattle.theory.specs.Buffers.{wrote-refused}
-use Rattle.theory.specs.Questions.{heldIn, roomFor, short-as, no-room-as, rowsFor, unbuilt-as}
+use Rattle.theory.specs.Trees.Parsed.{question-read}
+use Rattle.theory.specs.Calls.Decided as deciding
+use Rattle.theory.specs.Calls.Decided.{RowFound}
+use Rattle.theory.specs.Calls.Built as building
+use Rattle.theory.specs.Calls.Building.{tableOf}
+use Rattle.theory.specs.Calls.Areas.{statesTold, builtTold, Filled, keyCell, pathCell, decided-keys, decided-path, built-keys}
+use Rattle.theory.specs.Calls.Lengths.{decided-keys-length, decided-path-length, decided-word-length, built-keys-length, built-table-length, wrote-length}
+use Rattle.theory.specs.Wire.Buffers.{wrote-refused}
+use Rattle.theory.specs.Calls.Questions.{heldIn, roomFor, short-as, no-room-as, rowsFor, unbuilt-as}
 use Rattle.promises.specs.Calls.{WriteOutcome, DecideOutcome, BuildOutcome}
 use Rattle.promises.specs.Once.{write-is, decide-is, build-is}
 use Rattle.promises.specs.Demand1.{decided-refused, built-refused}
@@ -34,12 +34,12 @@ use Rattle.promises.specs.Demand1.{decided-refused, built-refused}
 pub decide-unchanged : (bytes : List ℕ) (keys : List ℤ) (path word : List ℕ) {o : Decided} → DecideOutcome bytes keys path word o → (ρ : Refusal) → o .answer ≡ DecideAnswer.Refused ρ
     → o ≡ record { answer = DecideAnswer.Refused ρ; keys = keys; path = path; word = word }
 decide-unchanged bytes keys path word out ρ e =
-    decide-is bytes keys path word out ∙ deciding.refused-unchanged bytes keys path word ρ (decided-refused bytes keys path word ρ .0 (sym (out .answer) ∙ e))
+    decide-is bytes keys path word out ∙ deciding.decide-refused-unchanged bytes keys path word ρ (decided-refused bytes keys path word ρ .0 (sym (out .answer) ∙ e))
 
 pub build-unchanged : (bytes : List ℕ) (keys : List ℤ) (table : List ℕ) {o : Built} → BuildOutcome bytes keys table o → (ρ : Refusal) → o .answer ≡ BuildAnswer.Refused ρ
     → o ≡ record { answer = BuildAnswer.Refused ρ; keys = keys; table = table }
 build-unchanged bytes keys table out ρ e =
-    build-is bytes keys table out ∙ building.refused-unchanged bytes keys table ρ (built-refused bytes keys table ρ .0 (sym (out .answer) ∙ e))
+    build-is bytes keys table out ∙ building.build-refused-unchanged bytes keys table ρ (built-refused bytes keys table ρ .0 (sym (out .answer) ∙ e))
 
 pub write-unchanged : (q : Question) (buffer : List ℕ) {o : Wrote} → WriteOutcome q buffer o → (ρ : Refusal) → o .answer ≡ WriteAnswer.Refused ρ → o .buffer ≡ buffer
 write-unchanged q buffer out ρ e = out .buffer ∙ wrote-refused q buffer ρ (sym (out .answer) ∙ e)

@@ -14,7 +14,7 @@ use Rattle.scope.specs.Writing.{Wrote, wrote}
 use Rattle.scope.specs.Words.{Word}
 use Rattle.scope.specs.Deciding.{Decided, decided}
 use Rattle.scope.specs.Building.{Built, built}
-use Rattle.wire.specs.declared.ReadPart.{ReadPart}
+use Rattle.reading.specs.declared.ReadPart.{ReadPart}
 use Rattle.promises.specs.Calls.{EmptyOutcome, LimitsOutcome, RecordOutcome, BodyOutcome, ReadOutcome, PartOutcome, JudgeOutcome, RunOutcome, SpellOutcome, WriteOutcome, DecideOutcome, BuildOutcome}
 
 -- ---- the outcome of a call that is lent buffers is that of the definitions

@@ -17,10 +17,10 @@ use Rattle.place.proofs.peek_record as peeking
 use Rattle.place.proofs.next_record as stepping
 use Rattle.scope.specs.declared.Refusal.{Refusal}
 use Rattle.scope.specs.declared.RecordAnswer.{RecordAnswer}
-use Rattle.scope.specs.Refusals.{refusal}
+use Rattle.scope.specs.Refusals.{BYTES-END, refusal}
 use Rattle.place.specs.declared.Place.{Place}
 use Rattle.place.specs.declared.Step.{Step}
-use Rattle.place.specs.Steps.{movedBy, Stepped}
+use Rattle.place.specs.Steps.{movedBy, PlaceStepped}
 use Rattle.promises.specs.Calls.{RecordOutcome}
 use Rattle.promises.specs.Once.{SamePart}
 use Rattle.promises.specs.Demand1.{record-cut}
@@ -42,7 +42,7 @@ pub record SameStep (s u : Step) : Type 0 where
   pub answer : s .answer ≡ u .answer
   pub body : SamePart (s .body) (u .body)
 
-pub step-once : (p : Place) {s u : Step} → Stepped p s → Stepped p u → SameStep s u
+pub step-once : (p : Place) {s u : Step} → PlaceStepped p s → PlaceStepped p u → SameStep s u
 step-once p a b = record {
   place = λ i. record { bytes = (a .sameBytes ∙ sym (b .sameBytes)) i; at = (a .moved ∙ sym (b .moved)) i };
   answer = a .answered ∙ sym (b .answered);
@@ -50,7 +50,7 @@ step-once p a b = record {
 }
 
 -- a bare step refuses only by 1, at the record, and the place then stays
-pub step-stays : (p : Place) {s : Step} → Stepped p s → (ρ : Refusal) → s .answer ≡ RecordAnswer.Refused ρ → (ρ ≡ refusal 1 (p .at)) × (s .place ≡ p)
+pub step-stays : (p : Place) {s : Step} → PlaceStepped p s → (ρ : Refusal) → s .answer ≡ RecordAnswer.Refused ρ → (ρ ≡ refusal BYTES-END (p .at)) × (s .place ≡ p)
 step-stays p a ρ e = (
   record-cut (now (p .bytes)) (p .at) (a .answered) ρ e,
   λ i. record { bytes = a .sameBytes i; at = (a .moved ∙ ap (λ (r : RecordAnswer). movedBy r (p .at)) (sym (a .answered) ∙ e)) i },
@@ -65,5 +65,5 @@ module _ {M : Type 1} (𝓤 : URA M) (H : Heap 𝓤) (A : Atoms 𝓤) (mem : Mem
   pub peek-tied : (p : Place) (r : RecordAnswer) → peeking.ensures-1 𝓤 H (κ, tt) A mem run p (record { entry = p; exit = p }) r ≡ fact 𝓤 (PeekOutcome p r)
   peek-tied p r = refl
 
-  pub step-tied : (p : Place) (s : Step) → stepping.ensures-1 𝓤 H (κ, tt) A mem run p (record { entry = p; exit = p }) s ≡ fact 𝓤 (Stepped p s)
+  pub step-tied : (p : Place) (s : Step) → stepping.ensures-1 𝓤 H (κ, tt) A mem run p (record { entry = p; exit = p }) s ≡ fact 𝓤 (PlaceStepped p s)
   step-tied p s = refl

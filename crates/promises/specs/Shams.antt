@@ -13,7 +13,7 @@ use Rattle.scope.specs.declared.DecideAnswer.{DecideAnswer}
 use Rattle.scope.specs.declared.BuildAnswer.{BuildAnswer}
 use Rattle.scope.specs.Whole.{allFrom}
 use Rattle.scope.specs.Question.{equation}
-use Rattle.scope.specs.Refusals.{refusal, firstRefusal}
+use Rattle.scope.specs.Refusals.{TABLE, refusal, firstRefusal}
 use Rattle.scope.specs.Words.{Word, letters, spelled, Over, over-[], over-∷}
 use Rattle.scope.specs.Tree.{Tree, questionBytes, trueFor, IsQuestion}
 use Rattle.scope.specs.Bound.{bound}
@@ -22,9 +22,9 @@ use Rattle.scope.specs.Deciding.{Decided}
 use Rattle.scope.specs.Building.{Built}
 use Rattle.scope.specs.Running.{tableFits, truthOf, ran}
 use Rattle.scope.specs.Outcomes.{running}
-use Rattle.theory.specs.Deciding.{StatesAre, states-unique, FirstSatisfying}
-use Rattle.theory.specs.Decided.{RowFound}
-use Rattle.theory.specs.Questions.{heldIn, roomFor, found-as, never-as, no-room-as, rowsFor, built-as, HandsOver}
+use Rattle.theory.specs.Calls.Deciding.{StatesAre, states-unique, FirstSatisfying}
+use Rattle.theory.specs.Calls.Decided.{RowFound}
+use Rattle.theory.specs.Calls.Questions.{heldIn, roomFor, found-as, never-as, no-room-as, rowsFor, built-as, HandsOver}
 use Rattle.promises.specs.Calls.{DecideOutcome, BuildOutcome}
 use Rattle.promises.specs.Demand2 as two
 use Rattle.promises.specs.Demand3 as three
@@ -148,11 +148,11 @@ no-table true true false = refl
 no-table true false c = refl
 no-table false b c = refl
 
-nine-refused : (l : List ℕ) (w : Word) → ran 1 (9 ∷ l) w ≡ TruthAnswer.Refused (refusal 11 0)
+nine-refused : (l : List ℕ) (w : Word) → ran 1 (9 ∷ l) w ≡ TruthAnswer.Refused (refusal TABLE 0)
 unfolding ran firstRefusal tableFits allFrom
 nine-refused l w = rw (no-table (eqb (suc (length l) % 3) 0) (leb 1 (suc (length l) / 3)) (leb (suc (length l) / 3) 65535))
 
-nines-refused : (states : ℕ) (w : Word) → ran 1 (tableIn 1 states someTable) w ≡ TruthAnswer.Refused (refusal 11 0)
+nines-refused : (states : ℕ) (w : Word) → ran 1 (tableIn 1 states someTable) w ≡ TruthAnswer.Refused (refusal TABLE 0)
 unfolding ran firstRefusal tableFits
 nines-refused zero w = refl
 nines-refused (suc s) w =
@@ -196,7 +196,7 @@ module _ (b : Builder) (meets : MeetsBuild b) where
       let e = says (1 ∷ []) (one-over .0) true (one-truth .0) in
       let k = kept (questionBytes 1 isOne) someKeys someTable one (one-built .0) (one-built .1) in
       let r = nines-refused (one-built .0) (1 ∷ []) in
-      let f : TruthAnswer.Refused (refusal 11 0) ≡ TruthAnswer.Yes = sym r ∙ ap (λ (l : List ℕ). ran 1 (tableIn 1 (one-built .0) l) (1 ∷ [])) (sym k) ∙ e in
+      let f : TruthAnswer.Refused (refusal TABLE 0) ≡ TruthAnswer.Yes = sym r ∙ ap (λ (l : List ℕ). ran 1 (tableIn 1 (one-built .0) l) (1 ∷ [])) (sym k) ∙ e in
       let z : _≡_ {A = ℕ} 0 1 = cc in
       omega arith
 

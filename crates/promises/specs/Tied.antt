@@ -12,12 +12,12 @@ use Rattle.scope.specs.declared.TruthAnswer.{TruthAnswer}
 use Rattle.scope.specs.declared.SpellAnswer.{SpellAnswer}
 use Rattle.scope.specs.declared.DecideAnswer.{DecideAnswer}
 use Rattle.scope.specs.declared.BuildAnswer.{BuildAnswer}
-use Rattle.wire.specs.declared.ReadPart.{ReadPart}
-use Rattle.wire.proofs.record_at.Reads as record-at
-use Rattle.wire.proofs.body.Reads as body
-use Rattle.wire.proofs.read.Reads as read
-use Rattle.wire.proofs.read_from.Reads as read-from
-use Rattle.wire.proofs.write.Reads as write
+use Rattle.reading.specs.declared.ReadPart.{ReadPart}
+use Rattle.records.proofs.record_at.Reads as record-at
+use Rattle.records.proofs.body.Reads as body
+use Rattle.reading.proofs.read.Reads as read
+use Rattle.reading.proofs.read_from.Reads as read-from
+use Rattle.writing.proofs.write.Reads as write
 use Rattle.judge.proofs.judge.Reads as judge
 use Rattle.words.proofs.run.Reads as run
 use Rattle.words.proofs.spell.Reads as spell

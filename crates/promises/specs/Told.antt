@@ -13,26 +13,26 @@ use Rattle.scope.specs.declared.Held.{Held}
 use Rattle.scope.specs.declared.RecordAnswer.{RecordAnswer}
 use Rattle.scope.specs.declared.TruthAnswer.{TruthAnswer}
 use Rattle.scope.specs.declared.SpellAnswer.{SpellAnswer}
-use Rattle.scope.specs.Refusals.{refused, given, refusedWith, recordTold, readTold, writeTold, truthTold, decideTold, buildTold, spellTold}
-use Rattle.scope.specs.Wire.{kindAt, lengthAt}
+use Rattle.scope.specs.Refusals.{NO-ROOM, TOO-SHORT, VALUES, refused, given, refusedWith, recordTold, readTold, writeTold, truthTold, decideTold, buildTold, spellTold}
+use Rattle.scope.specs.Wire.{kindAt, lengthAt, recordChecks}
 use Rattle.scope.specs.Writing.{Wrote}
-use Rattle.scope.specs.Words.{Word, value}
+use Rattle.scope.specs.Words.{Word, value, spellChecks}
 use Rattle.scope.specs.Tree.{trueFor, IsQuestion}
 use Rattle.scope.specs.Numbering.{machineOf}
 use Rattle.scope.specs.Deciding.{Decided}
 use Rattle.scope.specs.Building.{Built}
-use Rattle.scope.specs.Running.{saysYes}
-use Rattle.theory.specs.Held.{Sized}
-use Rattle.theory.specs.Checks.{Passed, FirstFailing}
-use Rattle.theory.specs.Answers.{refused-iff}
-use Rattle.theory.specs.WritingStopped.{RefusedAt}
-use Rattle.theory.specs.Reachable.{AtMost}
-use Rattle.theory.specs.Deciding.{StatesAre}
-use Rattle.theory.specs.Decided.{RowFound, NeverAt, NoRoomAt}
-use Rattle.theory.specs.Agreement.{Taken}
-use Rattle.theory.specs.Questions.{judged-unread, judged-others, heldIn, roomFor, found-as, short-as, never-as, no-room-as, rowsFor, built-as, unbuilt-as}
+use Rattle.scope.specs.Running.{saysYes, runChecks}
+use Rattle.theory.specs.Wire.Held.{Sized}
+use Rattle.theory.specs.Wire.Checks.{Passed, FirstFailing}
+use Rattle.theory.specs.Wire.Answers.{refused-iff}
+use Rattle.theory.specs.Wire.WritingStopped.{RefusedAt}
+use Rattle.theory.specs.Machine.Reachable.{AtMost}
+use Rattle.theory.specs.Calls.Deciding.{StatesAre}
+use Rattle.theory.specs.Calls.Decided.{RowFound, NeverAt, NoRoomAt}
+use Rattle.theory.specs.Calls.Agreement.{Taken}
+use Rattle.theory.specs.Calls.Questions.{judged-unread, judged-others, heldIn, roomFor, found-as, short-as, never-as, no-room-as, rowsFor, built-as, unbuilt-as}
 use Rattle.promises.specs.Calls.{RecordOutcome, ReadOutcome, JudgeOutcome, RunOutcome, SpellOutcome, WriteOutcome, DecideOutcome, BuildOutcome}
-use Rattle.promises.specs.Demand1.{Breaks, read-question, recordChecks, record-refused, record-there, read-refused, decide-refused, build-refused, runChecks, run-refused, run-answered, spellChecks, spell-refused, spell-answered, TooLong, write-refused, WrittenFor, write-written}
+use Rattle.promises.specs.Demand1.{Breaks, read-question, record-refused, record-there, read-refused, decide-refused, build-refused, run-refused, run-answered, spell-refused, spell-answered, TooLong, write-refused, WrittenFor, write-written}
 use Rattle.promises.specs.Demand2.{judge-is}
 
 -- ---- reading, a bare step and writing
@@ -55,7 +55,7 @@ module _ (q : Question) (buffer : List ℕ) {o : Wrote} (out : WriteOutcome q bu
   pub write-broken : (ρ : Refusal) → RefusedAt q ρ → writeTold (o .answer) ≡ refused ρ
   write-broken ρ s = ap writeTold (write-refused q buffer out ρ .1 (inl s))
 
-  pub write-long : (ρ : Refusal) → TooLong q buffer ρ → writeTold (o .answer) ≡ refusedWith 8 []
+  pub write-long : (ρ : Refusal) → TooLong q buffer ρ → writeTold (o .answer) ≡ refusedWith TOO-SHORT []
   write-long ρ t = ap writeTold (write-refused q buffer out ρ .1 (inr t)) ∙ ap refused (t .told)
 
   pub write-fitting : Sized q → (count : ℕ) → WrittenFor q buffer count → writeTold (o .answer) ≡ given (count ∷ [])
@@ -67,7 +67,7 @@ module _ (bytes values : List ℕ) {t : TruthAnswer} (out : JudgeOutcome bytes v
   pub judge-broken : (ρ : Refusal) → Breaks bytes ρ → truthTold t ≡ refused ρ
   judge-broken ρ b = ap truthTold (out ∙ judged-unread bytes values ρ (refused-iff bytes ρ .1 b))
 
-  pub judge-others : (q : IsQuestion bytes) → ¬ Taken (q .n) values → truthTold t ≡ refusedWith 9 []
+  pub judge-others : (q : IsQuestion bytes) → ¬ Taken (q .n) values → truthTold t ≡ refusedWith VALUES []
   judge-others q n = ap truthTold (out ∙ judged-others bytes values q n)
 
   module _ (q : IsQuestion bytes) (taken : Taken (q .n) values) where
@@ -106,13 +106,13 @@ module _ (bytes : List ℕ) (keys : List ℤ) (path word : List ℕ) {o : Decide
     decide-found states count f h = ap decideTold (out .answer ∙ found-as bytes keys path word q states count .1 (f, h))
 
     pub decide-short : (states count : ℕ) → RowFound (heldIn q) (trueFor (q .tree)) (roomFor q keys path) states count → length word < count
-        → decideTold (o .answer) ≡ refusedWith 8 (states ∷ count ∷ [])
+        → decideTold (o .answer) ≡ refusedWith TOO-SHORT (states ∷ count ∷ [])
     decide-short states count f h = ap decideTold (out .answer ∙ short-as bytes keys path word q states count .1 (f, h))
 
     pub decide-never : (states : ℕ) → NeverAt (heldIn q) (trueFor (q .tree)) (roomFor q keys path) states → decideTold (o .answer) ≡ given (states ∷ [])
     decide-never states n = ap decideTold (out .answer ∙ never-as bytes keys path word q states .1 n)
 
-    pub decide-no-room : (states : ℕ) → NoRoomAt (heldIn q) (trueFor (q .tree)) (roomFor q keys path) states → decideTold (o .answer) ≡ refusedWith 7 (states ∷ [])
+    pub decide-no-room : (states : ℕ) → NoRoomAt (heldIn q) (trueFor (q .tree)) (roomFor q keys path) states → decideTold (o .answer) ≡ refusedWith NO-ROOM (states ∷ [])
     decide-no-room states n = ap decideTold (out .answer ∙ no-room-as bytes keys path word q states .1 n)
 
 -- ---- building
@@ -125,5 +125,5 @@ module _ (bytes : List ℕ) (keys : List ℤ) (table : List ℕ) {o : Built} (ou
     pub build-built : (states : ℕ) → StatesAre (machineOf (heldIn q)) states → states ≤ rowsFor q keys table → buildTold (o .answer) ≡ given (states ∷ [])
     build-built states s h = ap buildTold (out .answer ∙ built-as bytes keys table q states .1 (s, h))
 
-    pub build-no-room : ¬ AtMost (machineOf (heldIn q)) (rowsFor q keys table) → buildTold (o .answer) ≡ refusedWith 7 (rowsFor q keys table ∷ [])
+    pub build-no-room : ¬ AtMost (machineOf (heldIn q)) (rowsFor q keys table) → buildTold (o .answer) ≡ refusedWith NO-ROOM (rowsFor q keys table ∷ [])
     build-no-room n = ap buildTold (out .answer ∙ unbuilt-as bytes keys table q (rowsFor q keys table) .1 (refl, n))

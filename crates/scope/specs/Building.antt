@@ -8,7 +8,6 @@ use lib.IntN.{ℤ}
 use Rattle.scope.specs.declared.Question.{Question}
 use Rattle.scope.specs.declared.ReadAnswer.{ReadAnswer}
 use Rattle.scope.specs.declared.BuildAnswer.{BuildAnswer}
-use Rattle.scope.specs.declared.Held.{Held}
 use Rattle.scope.specs.Whole.{joined, atFront}
 use Rattle.scope.specs.Sizes.{mostStates}
 use Rattle.scope.specs.Question.{atomCount}

@@ -7,7 +7,7 @@ use lib.IntN.{ℤ, pos, negsuc}
 use Rattle.scope.specs.declared.DecideAnswer.{DecideAnswer}
 use Rattle.scope.specs.declared.BuildAnswer.{BuildAnswer}
 use Rattle.scope.specs.States.{deadCell}
-use Rattle.scope.specs.Outcomes.{Outcome, decision, table, number, Line, line, given, wanted, keyMark, marked, decides, builds, halves, running}
+use Rattle.scope.specs.Outcomes.{Outcome, decision, table, number, Line, line, allGiven, wanted, keyMark, marked, decides, builds, halfOf, running}
 
 -- ---- the questions
 
@@ -87,12 +87,12 @@ cases =
     line (decides aboveFive 16 4) (found 5 (0 ∷ 1 ∷ 1 ∷ []) (marked 1)) ∷
     line (decides bothWays 16 4) (never 2) ∷
     line (decides noughtX 16 4) (found 1 [] (marked 4)) ∷
-    line (halves (negsuc 2)) (number (negsuc 1)) ∷
-    line (halves (negsuc 0)) (number (negsuc 0)) ∷
-    line (halves (pos 0)) (number (pos 0)) ∷
-    line (halves (pos 1)) (number (pos 0)) ∷
+    line (halfOf (negsuc 2)) (number (negsuc 1)) ∷
+    line (halfOf (negsuc 0)) (number (negsuc 0)) ∷
+    line (halfOf (pos 0)) (number (pos 0)) ∷
+    line (halfOf (pos 1)) (number (pos 0)) ∷
     []
 
-pub cases-hold : given cases ≡ wanted cases
+pub cases-hold : allGiven cases ≡ wanted cases
 unfolding running
 cases-hold = refl

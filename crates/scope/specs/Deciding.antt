@@ -1,5 +1,5 @@
 -- Document 01, "Deciding and building", of deciding: the rows lent, found, never and no room, and what each lent buffer holds after.
-use Prim.Native.Nat.{ℕ, suc, _*_, _/_, min}
+use Prim.Native.Nat.{ℕ, suc, _/_, min}
 use mathlib.Core.Bool.{Bool, true, false}
 use mathlib.Core.Option.{Option, none, some}
 use mathlib.Core.List.{List, [], _∷_, map}
@@ -9,7 +9,6 @@ use lib.IntN.{ℤ}
 use Rattle.scope.specs.declared.Question.{Question}
 use Rattle.scope.specs.declared.ReadAnswer.{ReadAnswer}
 use Rattle.scope.specs.declared.DecideAnswer.{DecideAnswer}
-use Rattle.scope.specs.declared.Held.{Held}
 use Rattle.scope.specs.Whole.{joined, atFront}
 use Rattle.scope.specs.Sizes.{mostStates}
 use Rattle.scope.specs.Question.{atomCount}

@@ -15,7 +15,7 @@ use Rattle.scope.specs.Whole.{joined}
 use Rattle.scope.specs.Question.{emptyQuestion, equation, atMost}
 use Rattle.scope.specs.Tree.{Tree}
 use Rattle.scope.specs.Refusals.{refusal}
-use Rattle.scope.specs.Outcomes.{Outcome, held, wroteBytes, truth, spelling, count, holding, Line, line, given, wanted, marked, reads, writes, judges, spells, runs, bounds, fits, says, running}
+use Rattle.scope.specs.Outcomes.{Outcome, held, wroteBytes, truth, spelling, count, tree, holding, Line, line, allGiven, wanted, marked, reads, writes, judges, spells, runs, bounds, asks, fitsLimits, saysTree, running}
 
 -- ---- bytes of questions over one variable
 
@@ -182,38 +182,41 @@ edges =
     line (runs 1 nought (0 ∷ 1 ∷ 0 ∷ [])) (truth TruthAnswer.No) ∷
     line (runs 1 nought (replicate 99 0)) (truth TruthAnswer.Yes) ∷
     -- a tree: each limit, and the first number beyond it
-    line (fits 0 (Tree.atom (record { kind = equation; coefficients = []; constant = pos 0 }))) (holding false) ∷
-    line (fits 1 (oneAtom (pos 0) (pos 0))) (holding true) ∷
-    line (fits 2 (oneAtom (pos 0) (pos 0))) (holding false) ∷
-    line (fits 6 (Tree.atom (record { kind = atMost; coefficients = replicate 6 (pos 0); constant = pos 0 }))) (holding true) ∷
-    line (fits 7 (Tree.atom (record { kind = atMost; coefficients = replicate 7 (pos 0); constant = pos 0 }))) (holding false) ∷
-    line (fits 1 (under 15 (oneAtom (pos 0) (pos 0)))) (holding true) ∷
-    line (fits 1 (under 16 (oneAtom (pos 0) (pos 0)))) (holding false) ∷
-    line (fits 1 (Tree.and (under 15 (oneAtom (pos 0) (pos 0))) (oneAtom (pos 0) (pos 0)))) (holding false) ∷
-    line (fits 1 (Tree.or (oneAtom (pos 0) (pos 0)) (under 15 (oneAtom (pos 0) (pos 0))))) (holding false) ∷
-    line (fits 1 (chain 7)) (holding true) ∷
-    line (fits 1 (chain 8)) (holding false) ∷
-    line (fits 1 (broad 4)) (holding true) ∷
-    line (fits 1 (broad 5)) (holding false) ∷
-    line (fits 1 (oneAtom (pos 4096) (pos 1000000))) (holding true) ∷
-    line (fits 1 (oneAtom (negsuc 4095) (negsuc 999999))) (holding true) ∷
-    line (fits 1 (oneAtom (pos 4097) (pos 0))) (holding false) ∷
-    line (fits 1 (oneAtom (negsuc 4096) (pos 0))) (holding false) ∷
-    line (fits 1 (oneAtom (pos 0) (pos 1000001))) (holding false) ∷
-    line (fits 1 (oneAtom (pos 0) (negsuc 1000000))) (holding false) ∷
-    line (fits 1 (Tree.and (oneAtom (pos 0) (pos 0)) (oneAtom (pos 4097) (pos 0)))) (holding false) ∷
+    line (fitsLimits 0 (Tree.atom (record { kind = equation; coefficients = []; constant = pos 0 }))) (holding false) ∷
+    line (fitsLimits 1 (oneAtom (pos 0) (pos 0))) (holding true) ∷
+    line (fitsLimits 2 (oneAtom (pos 0) (pos 0))) (holding false) ∷
+    line (fitsLimits 6 (Tree.atom (record { kind = atMost; coefficients = replicate 6 (pos 0); constant = pos 0 }))) (holding true) ∷
+    line (fitsLimits 7 (Tree.atom (record { kind = atMost; coefficients = replicate 7 (pos 0); constant = pos 0 }))) (holding false) ∷
+    line (fitsLimits 1 (under 15 (oneAtom (pos 0) (pos 0)))) (holding true) ∷
+    line (fitsLimits 1 (under 16 (oneAtom (pos 0) (pos 0)))) (holding false) ∷
+    line (fitsLimits 1 (Tree.and (under 15 (oneAtom (pos 0) (pos 0))) (oneAtom (pos 0) (pos 0)))) (holding false) ∷
+    line (fitsLimits 1 (Tree.or (oneAtom (pos 0) (pos 0)) (under 15 (oneAtom (pos 0) (pos 0))))) (holding false) ∷
+    line (fitsLimits 1 (chain 7)) (holding true) ∷
+    line (fitsLimits 1 (chain 8)) (holding false) ∷
+    line (fitsLimits 1 (broad 4)) (holding true) ∷
+    line (fitsLimits 1 (broad 5)) (holding false) ∷
+    line (fitsLimits 1 (oneAtom (pos 4096) (pos 1000000))) (holding true) ∷
+    line (fitsLimits 1 (oneAtom (negsuc 4095) (negsuc 999999))) (holding true) ∷
+    line (fitsLimits 1 (oneAtom (pos 4097) (pos 0))) (holding false) ∷
+    line (fitsLimits 1 (oneAtom (negsuc 4096) (pos 0))) (holding false) ∷
+    line (fitsLimits 1 (oneAtom (pos 0) (pos 1000001))) (holding false) ∷
+    line (fitsLimits 1 (oneAtom (pos 0) (negsuc 1000000))) (holding false) ∷
+    line (fitsLimits 1 (Tree.and (oneAtom (pos 0) (pos 0)) (oneAtom (pos 4097) (pos 0)))) (holding false) ∷
     -- what it says: each connective with each truth of its parts
-    line (says (upTo 5) (5 ∷ [])) (holding true) ∷
-    line (says (upTo 5) (6 ∷ [])) (holding false) ∷
-    line (says (oneAtom (negsuc 0) (negsuc 4)) (5 ∷ [])) (holding true) ∷
-    line (says (Tree.not (upTo 5)) (6 ∷ [])) (holding true) ∷
-    line (says (Tree.not (upTo 5)) (5 ∷ [])) (holding false) ∷
-    line (says (Tree.and (upTo 5) (upTo 7)) (5 ∷ [])) (holding true) ∷
-    line (says (Tree.and (upTo 5) (upTo 7)) (6 ∷ [])) (holding false) ∷
-    line (says (Tree.and (upTo 7) (upTo 5)) (6 ∷ [])) (holding false) ∷
-    line (says (Tree.or (upTo 5) (upTo 7)) (6 ∷ [])) (holding true) ∷
-    line (says (Tree.or (upTo 7) (upTo 5)) (6 ∷ [])) (holding true) ∷
-    line (says (Tree.or (upTo 5) (upTo 7)) (8 ∷ [])) (holding false) ∷
+    line (saysTree (upTo 5) (5 ∷ [])) (holding true) ∷
+    line (saysTree (upTo 5) (6 ∷ [])) (holding false) ∷
+    line (saysTree (oneAtom (negsuc 0) (negsuc 4)) (5 ∷ [])) (holding true) ∷
+    line (saysTree (Tree.not (upTo 5)) (6 ∷ [])) (holding true) ∷
+    line (saysTree (Tree.not (upTo 5)) (5 ∷ [])) (holding false) ∷
+    line (saysTree (Tree.and (upTo 5) (upTo 7)) (5 ∷ [])) (holding true) ∷
+    line (saysTree (Tree.and (upTo 5) (upTo 7)) (6 ∷ [])) (holding false) ∷
+    line (saysTree (Tree.and (upTo 7) (upTo 5)) (6 ∷ [])) (holding false) ∷
+    line (saysTree (Tree.or (upTo 5) (upTo 7)) (6 ∷ [])) (holding true) ∷
+    line (saysTree (Tree.or (upTo 7) (upTo 5)) (6 ∷ [])) (holding true) ∷
+    line (saysTree (Tree.or (upTo 5) (upTo 7)) (8 ∷ [])) (holding false) ∷
+    -- its bytes: a connective, then its parts in their order
+    line (asks 1 (Tree.and (upTo 5) (upTo 7))) (tree true (head ++ (0 ∷ 0 ∷ 0x21 ∷ 0 ∷ 8 ∷ 0 ∷ 0x11 ∷ 0 ∷ 1 ∷ 0 ∷ 0 ∷ 0 ∷ 5 ∷ 0 ∷ 0 ∷ 0 ∷ 8 ∷ 0 ∷ 0x11 ∷ 0 ∷ 1 ∷ 0 ∷ 0 ∷ 0 ∷ 7 ∷ 0 ∷ 0 ∷ 0 ∷ end))) ∷
+    line (asks 1 (Tree.or (upTo 5) (upTo 7))) (tree true (head ++ (0 ∷ 0 ∷ 0x22 ∷ 0 ∷ 8 ∷ 0 ∷ 0x11 ∷ 0 ∷ 1 ∷ 0 ∷ 0 ∷ 0 ∷ 5 ∷ 0 ∷ 0 ∷ 0 ∷ 8 ∷ 0 ∷ 0x11 ∷ 0 ∷ 1 ∷ 0 ∷ 0 ∷ 0 ∷ 7 ∷ 0 ∷ 0 ∷ 0 ∷ end))) ∷
     -- the bound: of 0x = 0 one number and dead; of x <= 1000000, from -1 on, no dead
     line (bounds (head ++ (atom ++ end))) (count 2) ∷
     line (bounds (head ++ ((8 ∷ 0 ∷ 0x11 ∷ 0 ∷ 1 ∷ 0 ∷ 0 ∷ 0 ∷ 0x40 ∷ 0x42 ∷ 0x0F ∷ 0 ∷ []) ++ end))) (count 1000002) ∷
@@ -222,6 +225,6 @@ edges =
     part : List ℕ
     part = replicate 12 3 ++ (1 ∷ [])
 
-pub edges-hold : given edges ≡ wanted edges
+pub edges-hold : allGiven edges ≡ wanted edges
 unfolding running
 edges-hold = refl

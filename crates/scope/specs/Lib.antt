@@ -1,5 +1,5 @@
 -- Document 01 as definitions that run, a file for each of its headings and in its order. Nothing is proved here but that the
--- worked examples (Cases), the outside vectors (Vectors) and the edges worked by hand (Edges) come out as they should.
+-- worked examples (Cases) and the edges worked by hand (Edges) come out as they should; samples tries outside vectors.
 pub mod Whole
 pub mod Sizes
 pub mod Question
@@ -18,4 +18,3 @@ pub mod Judging
 pub mod Outcomes
 pub mod Cases
 pub mod Edges
-pub mod Vectors

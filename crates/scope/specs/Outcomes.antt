@@ -16,7 +16,7 @@ use Rattle.scope.specs.Sizes.{numbersFit}
 use Rattle.scope.specs.Question.{nodesOf, coefficientsOf, constantOf, kindsOf, atomsFrom, atomsOf, atomCount}
 use Rattle.scope.specs.Refusals.{firstRefusal, onward}
 use Rattle.scope.specs.Wire.{numbersAt, recordAt, grown, headRead, noted, nodeRead, endRead, recordRead, readFrom, wholeRead, readHeld}
-use Rattle.scope.specs.Writing.{atomBody, nodeBytes, headWritten, nodeWritten, partWritten, codeChecks, numbersClear, leftOver, endWritten, written, Wrote, wrote}
+use Rattle.scope.specs.Writing.{atomBody, nodeBytes, headWritten, nodeWritten, partWritten, codeChecks, numbersClear, leftOverChecks, endWritten, written, Wrote, wrote}
 use Rattle.scope.specs.Words.{digit, letterOf, valueFrom, value, valuesFrom, spelled, spelt}
 use Rattle.scope.specs.States.{cellOf, sameEntry, sumFrom, sumAt, startEntry, stepEntry, worth, startOf, stepOf, worthsOf, sameState, cellsOf, settled, formulaWorth, accepting, dot, holds, satisfied}
 use Rattle.scope.specs.Tree.{Tree, nodesIn, atomsIn, depthOf, atomFits, withinLimits, treeBytes, questionBytes, rowOf, trueFor}
@@ -47,8 +47,8 @@ pub record Line : Type 0 where
 abbrev pub line : Outcome → Outcome → Line
 line gives should = record { gives = gives; should = should }
 
-abbrev pub given : List Line → List Outcome
-given lines = map (λ (l : Line). l .gives) lines
+abbrev pub allGiven : List Line → List Outcome
+allGiven lines = map (λ (l : Line). l .gives) lines
 
 abbrev pub wanted : List Line → List Outcome
 wanted lines = map (λ (l : Line). l .should) lines
@@ -96,8 +96,8 @@ spells n variable word = spelling (spelt n variable word)
 abbrev pub runs : ℕ → List ℕ → List ℕ → Outcome
 runs n cells word = truth (ran n cells word)
 
-abbrev pub halves : ℤ → Outcome
-halves z = number (half z)
+abbrev pub halfOf : ℤ → Outcome
+halfOf z = number (half z)
 
 abbrev pub bounds : List ℕ → Outcome
 bounds bytes = count (bound (readHeld bytes .question))
@@ -107,13 +107,13 @@ bounds bytes = count (bound (readHeld bytes .question))
 abbrev pub asks : ℕ → Tree → Outcome
 asks n t = tree (withinLimits n t) (questionBytes n t)
 
-abbrev pub fits : ℕ → Tree → Outcome
-fits n t = holding (withinLimits n t)
+abbrev pub fitsLimits : ℕ → Tree → Outcome
+fitsLimits n t = holding (withinLimits n t)
 
-abbrev pub says : Tree → List ℕ → Outcome
-says t values = holding (trueFor t values)
+abbrev pub saysTree : Tree → List ℕ → Outcome
+saysTree t values = holding (trueFor t values)
 
 -- what has to unfold for the definitions to run
 unfoldable pub running : Unit {0}
-unfolding all allFrom joined atFront numbersFit nodesOf coefficientsOf constantOf kindsOf atomsFrom atomsOf atomCount firstRefusal onward numbersAt recordAt grown headRead noted nodeRead endRead recordRead readFrom wholeRead readHeld atomBody nodeBytes headWritten nodeWritten partWritten codeChecks numbersClear leftOver endWritten written wrote digit letterOf valueFrom value valuesFrom spelled spelt cellOf sameEntry sumFrom sumAt startEntry stepEntry worth startOf stepOf worthsOf sameState cellsOf settled formulaWorth accepting dot holds satisfied nodesIn atomsIn depthOf atomFits withinLimits treeBytes questionBytes rowOf trueFor positives negatives lowest highest entryCount product bound machineOf firstIf after startRow has addedIf tried triedAll expandedIf numbered wordWithin wordOf firstAccepting numberIf numberOf verdict decideRoom keyCells pathCells decidedQuestion decided nextStates tableRow tableCells buildRoom builtQuestion built tableFits rowAfter saysYes ran judgedQuestion judged
+unfolding all allFrom joined atFront numbersFit nodesOf coefficientsOf constantOf kindsOf atomsFrom atomsOf atomCount firstRefusal onward numbersAt recordAt grown headRead noted nodeRead endRead recordRead readFrom wholeRead readHeld atomBody nodeBytes headWritten nodeWritten partWritten codeChecks numbersClear leftOverChecks endWritten written wrote digit letterOf valueFrom value valuesFrom spelled spelt cellOf sameEntry sumFrom sumAt startEntry stepEntry worth startOf stepOf worthsOf sameState cellsOf settled formulaWorth accepting dot holds satisfied nodesIn atomsIn depthOf atomFits withinLimits treeBytes questionBytes rowOf trueFor positives negatives lowest highest entryCount product bound machineOf firstIf after startRow has addedIf tried triedAll expandedIf numbered wordWithin wordOf firstAccepting numberIf numberOf verdict decideRoom keyCells pathCells decidedQuestion decided nextStates tableRow tableCells buildRoom builtQuestion built tableFits rowAfter saysYes ran judgedQuestion judged
 running = tt

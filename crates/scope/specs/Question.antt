@@ -1,12 +1,12 @@
 -- A held question, its nodes and its atoms. A node code stands for a node; what a node is on the wire is in Wire.
-use Prim.Native.Nat.{ℕ, suc, _+_, _*_}
+use Prim.Native.Nat.{ℕ, suc, _*_}
 use mathlib.Core.Bool.{Bool, true, false, cond}
 use mathlib.Core.List.{List, [], _∷_, map}
 use lib.ListN.{length, getD, take, drop, replicate}
 use lib.Dec.{eqb}
 use lib.IntN.{ℤ, pos}
 use Rattle.scope.specs.declared.Question.{Question}
-use Rattle.scope.specs.Sizes.{mostVariables, mostAtoms, mostNodes}
+use Rattle.scope.specs.Sizes.{mostVariables, mostAtoms, mostNodes, mostCoefficients}
 
 -- ---- nodes
 
@@ -60,7 +60,7 @@ abbrev pub emptyQuestion : Question
 emptyQuestion = record {
   n = 0;
   codes = replicate mostNodes 0;
-  coefficients = replicate (mostVariables * mostAtoms) (pos 0);
+  coefficients = replicate mostCoefficients (pos 0);
   constants = replicate mostAtoms (pos 0);
 }
 

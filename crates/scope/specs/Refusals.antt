@@ -13,6 +13,41 @@ use Rattle.scope.specs.declared.DecideAnswer.{DecideAnswer}
 use Rattle.scope.specs.declared.BuildAnswer.{BuildAnswer}
 use Rattle.scope.specs.declared.SpellAnswer.{SpellAnswer}
 
+-- ---- the numbers
+
+abbrev pub BYTES-END : ℕ
+BYTES-END = 1
+
+abbrev pub NOT-DUE : ℕ
+NOT-DUE = 2
+
+abbrev pub BODY-LENGTH : ℕ
+BODY-LENGTH = 3
+
+abbrev pub BEYOND-LIMIT : ℕ
+BEYOND-LIMIT = 4
+
+abbrev pub TOO-MANY : ℕ
+TOO-MANY = 5
+
+abbrev pub LEFT-OVER : ℕ
+LEFT-OVER = 6
+
+abbrev pub NO-ROOM : ℕ
+NO-ROOM = 7
+
+abbrev pub TOO-SHORT : ℕ
+TOO-SHORT = 8
+
+abbrev pub VALUES : ℕ
+VALUES = 9
+
+abbrev pub LETTER : ℕ
+LETTER = 10
+
+abbrev pub TABLE : ℕ
+TABLE = 11
+
 -- ---- checks
 
 pub record Check : Type 0 where
@@ -93,13 +128,13 @@ truthTold (TruthAnswer.Refused r) = refused r
 abbrev pub decideTold : DecideAnswer → Told
 decideTold (DecideAnswer.Found states letters) = given (states ∷ letters ∷ [])
 decideTold (DecideAnswer.Never states) = given (states ∷ [])
-decideTold (DecideAnswer.NoRoom states) = refusedWith 7 (states ∷ [])
-decideTold (DecideAnswer.Short states letters) = refusedWith 8 (states ∷ letters ∷ [])
+decideTold (DecideAnswer.NoRoom states) = refusedWith NO-ROOM (states ∷ [])
+decideTold (DecideAnswer.Short states letters) = refusedWith TOO-SHORT (states ∷ letters ∷ [])
 decideTold (DecideAnswer.Refused r) = refused r
 
 abbrev pub buildTold : BuildAnswer → Told
 buildTold (BuildAnswer.Built states) = given (states ∷ [])
-buildTold (BuildAnswer.NoRoom states) = refusedWith 7 (states ∷ [])
+buildTold (BuildAnswer.NoRoom states) = refusedWith NO-ROOM (states ∷ [])
 buildTold (BuildAnswer.Refused r) = refused r
 
 abbrev pub spellTold : SpellAnswer → Told

@@ -9,7 +9,7 @@ use Rattle.scope.specs.declared.Refusal.{Refusal}
 use Rattle.scope.specs.declared.TruthAnswer.{TruthAnswer}
 use Rattle.scope.specs.Whole.{allFrom}
 use Rattle.scope.specs.Sizes.{mostStates, variablesFit}
-use Rattle.scope.specs.Refusals.{check, firstRefusal}
+use Rattle.scope.specs.Refusals.{BEYOND-LIMIT, LETTER, TABLE, Check, check, firstRefusal}
 use Rattle.scope.specs.Words.{Word, lettersFit}
 use Rattle.scope.specs.Building.{tableWidth}
 
@@ -42,12 +42,8 @@ abbrev pub truthOr : Option Refusal → Bool → TruthAnswer
 truthOr none b = truthOf b
 truthOr (some r) b = TruthAnswer.Refused r
 
+abbrev pub runChecks : ℕ → List ℕ → Word → List Check
+runChecks n cells w = check BEYOND-LIMIT 0 (variablesFit n) ∷ check TABLE 0 (tableFits n cells) ∷ check LETTER 0 (lettersFit n w) ∷ []
+
 unfoldable pub ran : ℕ → List ℕ → Word → TruthAnswer
-ran n cells w =
-    truthOr
-    (firstRefusal
-    (check 4 0 (variablesFit n) ∷
-    check 11 0 (tableFits n cells) ∷
-    check 10 0 (lettersFit n w) ∷
-    []))
-    (saysYes n cells w)
+ran n cells w = truthOr (firstRefusal (runChecks n cells w)) (saysYes n cells w)

@@ -1,5 +1,5 @@
 -- Document 01, "Sizes": each limit named once.
-use Prim.Native.Nat.{ℕ}
+use Prim.Native.Nat.{ℕ, _+_, _*_, _^_}
 use mathlib.Core.Bool.{Bool, _&&_}
 use mathlib.Core.List.{List}
 use lib.Dec.{leb}
@@ -16,9 +16,17 @@ mostAtoms = 8
 abbrev pub mostNodes : ℕ
 mostNodes = 64
 
+-- a row of coefficients for each atom
+abbrev pub mostCoefficients : ℕ
+mostCoefficients = mostVariables * mostAtoms
+
 -- the root is at depth 1
 abbrev pub mostDepth : ℕ
 mostDepth = 16
+
+-- a letter has one binary digit of every variable
+abbrev pub mostLetters : ℕ
+mostLetters = 2 ^ mostVariables
 
 -- either way
 abbrev pub mostCoefficient : ℕ
@@ -35,6 +43,10 @@ mostValue = 1099511627775
 abbrev pub mostStates : ℕ
 mostStates = 65535
 
+-- the bytes of the longest question: the head, every node's header, every atom's numbers, the end
+abbrev pub mostBytes : ℕ
+mostBytes = 5 + (4 * mostNodes + (4 * (mostVariables + 1) * mostAtoms + 4))
+
 -- the letters of a word that is spelled out
 abbrev pub mostSpelled : ℕ
 mostSpelled = 64
@@ -49,6 +61,7 @@ limits = record {
   constant = pos mostConstant;
   value = mostValue;
   states = mostStates;
+  bytes = mostBytes;
 }
 
 -- a number of variables

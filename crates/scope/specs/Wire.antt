@@ -16,7 +16,7 @@ use Rattle.scope.specs.declared.ReadAnswer.{ReadAnswer}
 use Rattle.scope.specs.declared.Held.{Held}
 use Rattle.scope.specs.Sizes.{mostVariables, mostAtoms, mostNodes, mostDepth, variablesFit, numbersFit}
 use Rattle.scope.specs.Question.{Node, atom, equation, atMost, unused, codeOf, isUnused, isAtom, parts, emptyQuestion}
-use Rattle.scope.specs.Refusals.{Check, check, refusal, firstRefusal, Progress, stopped, going, ended, orStopped, onward}
+use Rattle.scope.specs.Refusals.{BYTES-END, NOT-DUE, BODY-LENGTH, BEYOND-LIMIT, TOO-MANY, LEFT-OVER, Check, check, refusal, firstRefusal, Progress, stopped, going, ended, orStopped, onward}
 
 -- ---- little-endian numbers
 
@@ -54,9 +54,21 @@ abbrev pub recordOr : Option Refusal → List ℕ → ℕ → RecordAnswer
 recordOr none b at = RecordAnswer.Record (kindAt b at) (at + 4) (lengthAt b at) (at + 4 + lengthAt b at)
 recordOr (some r) b at = RecordAnswer.Refused r
 
+abbrev pub recordChecks : List ℕ → ℕ → List Check
+recordChecks b at = check BYTES-END at (headerThere b at) ∷ check BYTES-END at (bodyThere b at) ∷ []
+
 -- a bare step
 unfoldable pub recordAt : List ℕ → ℕ → RecordAnswer
-recordAt b at = recordOr (firstRefusal (check 1 at (headerThere b at) ∷ check 1 at (bodyThere b at) ∷ [])) b at
+recordAt b at = recordOr (firstRefusal (recordChecks b at)) b at
+
+-- in a question: whether the kind is one that is due, then the size of its body, and what is looked at later
+abbrev pub frameChecks : List ℕ → ℕ → Bool → ℕ → List Check → List Check
+frameChecks b at due size later =
+    check BYTES-END at (headerThere b at) ∷
+    check NOT-DUE at due ∷
+    check BODY-LENGTH at (eqb (lengthAt b at) size) ∷
+    check BYTES-END at (bodyThere b at) ∷
+    later
 
 -- ---- kinds
 
@@ -105,11 +117,15 @@ grown x depth due s = record { nodes = s .nodes + 1; atoms = s .atoms + cond (is
 
 -- a 65th node
 abbrev pub placeCheck : ℕ → Shape → Check
-placeCheck place s = check 5 place (ltb (s .nodes) mostNodes)
+placeCheck place s = check TOO-MANY place (ltb (s .nodes) mostNodes)
 
 -- a ninth atom or depth 17
 abbrev pub sizeChecks : ℕ → Node → ℕ → Shape → List Check → List Check
-sizeChecks place x depth s later = check 5 place (not (isAtom x) || ltb (s .atoms) mostAtoms) ∷ check 5 place (leb depth mostDepth) ∷ later
+sizeChecks place x depth s later = check TOO-MANY place (not (isAtom x) || ltb (s .atoms) mostAtoms) ∷ check TOO-MANY place (leb depth mostDepth) ∷ later
+
+-- an atom's numbers
+abbrev pub atomCheck : ℕ → Node → List ℤ → ℤ → Check
+atomCheck place x coefficients constant = check BEYOND-LIMIT place (not (isAtom x) || numbersFit coefficients constant)
 
 -- ---- reading
 
@@ -125,23 +141,18 @@ pub record Ended : Type 0 where
   pub next : ℕ
 
 -- the head: n
+abbrev pub headChecks : List ℕ → ℕ → List Check
+headChecks b at = frameChecks b at (eqb (kindAt b at) headKind) 1 (check BEYOND-LIMIT at (variablesFit (byteAt b (at + 4))) ∷ [])
+
+abbrev pub afterHead : List ℕ → ℕ → Reading
+afterHead b at = record {
+  question = record { n = byteAt b (at + 4); codes = emptyQuestion .codes; coefficients = emptyQuestion .coefficients; constants = emptyQuestion .constants };
+  shape = unread;
+  place = at + 5;
+}
+
 unfoldable pub headRead : List ℕ → ℕ → Progress Reading Ended
-headRead b at =
-    let n = byteAt b (at + 4) in
-    orStopped
-    (firstRefusal
-    (check 1 at (headerThere b at) ∷
-    check 2 at (eqb (kindAt b at) headKind) ∷
-    check 3 at (eqb (lengthAt b at) 1) ∷
-    check 1 at (bodyThere b at) ∷
-    check 4 at (variablesFit n) ∷
-    []))
-    (going
-    (record {
-      question = record { n = n; codes = emptyQuestion .codes; coefficients = emptyQuestion .coefficients; constants = emptyQuestion .constants };
-      shape = unread;
-      place = at + 5;
-    }))
+headRead b at = orStopped (firstRefusal (headChecks b at)) (going (afterHead b at))
 
 -- a node noted in the question; its numbers where it is an atom
 unfoldable pub noted : Bool → Node → List ℤ → ℤ → Shape → Question → Question
@@ -158,42 +169,46 @@ noted false x coefficients constant s q = record {
   constants = q .constants;
 }
 
--- a node, where a part is due at this depth and others after it
-unfoldable pub nodeRead : List ℕ → ℕ → List ℕ → Reading → Progress Reading Ended
-nodeRead b depth due s =
-    let at = s .place in
-    let n = s .question .n in
-    let x = nodeOfKind (kindAt b at) in
-    let coefficients = numbersAt n b (at + 4) in
-    let constant = numberAt b (at + 4 + 4 * n) in
-    orStopped
-    (firstRefusal
-    (check 1 at (headerThere b at) ∷
-    check 2 at (not (isUnused x)) ∷
-    check 3 at (eqb (lengthAt b at) (bodyLength n x)) ∷
-    check 1 at (bodyThere b at) ∷
-    placeCheck at (s .shape) ∷
-    sizeChecks at x depth (s .shape)
-    (check 4 at (not (isAtom x) || numbersFit coefficients constant) ∷
-    [])))
-    (going
-    (record {
-      question = noted (isAtom x) x coefficients constant (s .shape) (s .question);
-      shape = grown x depth due (s .shape);
-      place = at + 4 + bodyLength n x;
-    }))
+-- the node at the place, and the numbers of an atom there
+abbrev pub nodeAt : List ℕ → Reading → Node
+nodeAt b s = nodeOfKind (kindAt b (s .place))
 
--- the end, where no part is due; its empty body is never cut
-unfoldable pub endRead : List ℕ → Reading → Progress Reading Ended
-endRead b s =
+abbrev pub coefficientsAt : List ℕ → Reading → List ℤ
+coefficientsAt b s = numbersAt (s .question .n) b (s .place + 4)
+
+abbrev pub constantAt : List ℕ → Reading → ℤ
+constantAt b s = numberAt b (s .place + 4 + 4 * s .question .n)
+
+-- a node, where a part is due at this depth and others after it
+abbrev pub nodeChecks : List ℕ → ℕ → Reading → List Check
+nodeChecks b depth s =
     let at = s .place in
-    orStopped
-    (firstRefusal
-    (check 1 at (headerThere b at) ∷
-    check 2 at (eqb (kindAt b at) endKind) ∷
-    check 3 at (eqb (lengthAt b at) 0) ∷
+    let x = nodeAt b s in
+    frameChecks b at (not (isUnused x)) (bodyLength (s .question .n) x)
+    (placeCheck at (s .shape) ∷
+    sizeChecks at x depth (s .shape)
+    (atomCheck at x (coefficientsAt b s) (constantAt b s) ∷
     []))
-    (ended (record { question = s .question; next = at + 4 }))
+
+abbrev pub afterNode : List ℕ → ℕ → List ℕ → Reading → Reading
+afterNode b depth due s = record {
+  question = noted (isAtom (nodeAt b s)) (nodeAt b s) (coefficientsAt b s) (constantAt b s) (s .shape) (s .question);
+  shape = grown (nodeAt b s) depth due (s .shape);
+  place = s .place + 4 + bodyLength (s .question .n) (nodeAt b s);
+}
+
+unfoldable pub nodeRead : List ℕ → ℕ → List ℕ → Reading → Progress Reading Ended
+nodeRead b depth due s = orStopped (firstRefusal (nodeChecks b depth s)) (going (afterNode b depth due s))
+
+-- the end, where no part is due
+abbrev pub endChecks : List ℕ → ℕ → List Check
+endChecks b at = frameChecks b at (eqb (kindAt b at) endKind) 0 []
+
+abbrev pub afterEnd : Reading → Ended
+afterEnd s = record { question = s .question; next = s .place + 4 }
+
+unfoldable pub endRead : List ℕ → Reading → Progress Reading Ended
+endRead b s = orStopped (firstRefusal (endChecks b (s .place))) (ended (afterEnd s))
 
 abbrev pub dueRead : List ℕ → List ℕ → Reading → Progress Reading Ended
 dueRead b [] s = endRead b s
@@ -206,16 +221,19 @@ recordRead b s = dueRead b (s .shape .due) s
 unfoldable pub readFrom : List ℕ → ℕ → Progress Reading Ended
 readFrom b at = onward (mostNodes + 1) (recordRead b) (headRead b at)
 
--- after the end, any byte left is 6, at that byte
+-- after the end, any byte left is refused, at that byte
+abbrev pub wholeChecks : List ℕ → ℕ → List Check
+wholeChecks b next = check LEFT-OVER next (leb (length b) next) ∷ []
+
 unfoldable pub wholeRead : List ℕ → Progress Reading Ended → Progress Reading Ended
 wholeRead b (stopped r) = stopped r
 wholeRead b (going s) = going s
-wholeRead b (ended e) = orStopped (firstRefusal (check 6 (e .next) (leb (length b) (e .next)) ∷ [])) (ended e)
+wholeRead b (ended e) = orStopped (firstRefusal (wholeChecks b (e .next))) (ended e)
 
 -- (nothing is left going: a 65th node is refused)
 abbrev pub heldOf : Progress Reading Ended → Held
 heldOf (stopped r) = record { answer = ReadAnswer.Refused r; question = emptyQuestion }
-heldOf (going s) = record { answer = ReadAnswer.Refused (refusal 5 (s .place)); question = emptyQuestion }
+heldOf (going s) = record { answer = ReadAnswer.Refused (refusal TOO-MANY (s .place)); question = emptyQuestion }
 heldOf (ended e) = record { answer = ReadAnswer.Accepted; question = e .question }
 
 unfoldable pub readHeld : List ℕ → Held

@@ -10,7 +10,7 @@ use Rattle.scope.specs.declared.Refusal.{Refusal}
 use Rattle.scope.specs.declared.SpellAnswer.{SpellAnswer}
 use Rattle.scope.specs.Whole.{all}
 use Rattle.scope.specs.Sizes.{mostSpelled, variablesFit}
-use Rattle.scope.specs.Refusals.{check, firstRefusal}
+use Rattle.scope.specs.Refusals.{BEYOND-LIMIT, VALUES, LETTER, Check, check, firstRefusal}
 
 infixl 45 _▹_
 infix 20 _≺_
@@ -82,13 +82,13 @@ abbrev pub valueOr : Option Refusal → ℕ → SpellAnswer
 valueOr none v = SpellAnswer.Value v
 valueOr (some r) v = SpellAnswer.Refused r
 
+abbrev pub spellChecks : ℕ → ℕ → Word → List Check
+spellChecks n variable w =
+    check BEYOND-LIMIT 0 (variablesFit n) ∷
+    check BEYOND-LIMIT 0 (leb 1 variable && leb variable n) ∷
+    check LETTER 0 (lettersFit n w) ∷
+    check VALUES 0 (leb (length w) mostSpelled) ∷
+    []
+
 unfoldable pub spelt : ℕ → ℕ → Word → SpellAnswer
-spelt n variable w =
-    valueOr
-    (firstRefusal
-    (check 4 0 (variablesFit n) ∷
-    check 4 0 (leb 1 variable && leb variable n) ∷
-    check 10 0 (lettersFit n w) ∷
-    check 9 0 (leb (length w) mostSpelled) ∷
-    []))
-    (value w (variable - 1))
+spelt n variable w = valueOr (firstRefusal (spellChecks n variable w)) (value w (variable - 1))

@@ -1,7 +1,6 @@
 -- Document 01, "A question on the wire", of writing a held question: its checks in their order, the bytes, and the buffer after.
-use Prim.Native.Nat.{ℕ, zero, suc, _+_, _*_, _/_, _%_, _-_}
+use Prim.Native.Nat.{ℕ, zero, suc, _+_, _/_, _%_, _-_}
 use mathlib.Core.Bool.{Bool, true, false, not, cond, _||_, _&&_}
-use mathlib.Core.Option.{Option, none, some}
 use mathlib.Core.List.{List, [], _∷_, _++_, map}
 use lib.ListN.{length, getD}
 use lib.Dec.{leb, ltb, eqb}
@@ -9,13 +8,12 @@ use lib.IntN.{ℤ, pos}
 use mir.Syntax.{w32}
 use mir.Val.{ofZ}
 use Rattle.scope.specs.declared.Question.{Question}
-use Rattle.scope.specs.declared.Refusal.{Refusal}
 use Rattle.scope.specs.declared.WriteAnswer.{WriteAnswer}
 use Rattle.scope.specs.Whole.{eqZ, allFrom, joined, atFront}
-use Rattle.scope.specs.Sizes.{mostVariables, mostNodes, variablesFit, numbersFit}
+use Rattle.scope.specs.Sizes.{mostVariables, mostNodes, variablesFit}
 use Rattle.scope.specs.Question.{Node, nodeOf, isUnused, isAtom, coefficientsOf, constantOf}
-use Rattle.scope.specs.Refusals.{Check, check, refusal, firstRefusal, Progress, stopped, going, ended, orStopped, onward}
-use Rattle.scope.specs.Wire.{Shape, unread, grown, placeCheck, sizeChecks, headKind, endKind, kindOf}
+use Rattle.scope.specs.Refusals.{NOT-DUE, BEYOND-LIMIT, TOO-MANY, LEFT-OVER, TOO-SHORT, Check, check, refusal, firstRefusal, Progress, stopped, going, ended, orStopped, onward}
+use Rattle.scope.specs.Wire.{Shape, unread, grown, placeCheck, sizeChecks, headKind, endKind, kindOf, atomCheck}
 
 -- ---- the bytes
 
@@ -42,23 +40,37 @@ pub record Walk : Type 0 where
   pub shape : Shape
   pub bytes : List ℕ
 
+-- the head: n
+abbrev pub headHeldChecks : Question → List Check
+headHeldChecks q = check BEYOND-LIMIT 0 (variablesFit (q .n)) ∷ []
+
+abbrev pub firstWalk : Question → Walk
+firstWalk q = record { shape = unread; bytes = recordBytes headKind (q .n ∷ []) }
+
 unfoldable pub headWritten : Question → Progress Walk Walk
-headWritten q = orStopped (firstRefusal (check 4 0 (variablesFit (q .n)) ∷ [])) (going (record { shape = unread; bytes = recordBytes headKind (q .n ∷ []) }))
+headWritten q = orStopped (firstRefusal (headHeldChecks q)) (going (firstWalk q))
+
+-- the node whose turn it is
+abbrev pub nodeHeld : Question → Walk → Node
+nodeHeld q w = nodeOf (getD (q .codes) (w .shape .nodes) 0)
 
 -- a node, where a part is due: at the 65th place there is no code to look at
-unfoldable pub nodeWritten : Question → ℕ → List ℕ → Walk → Progress Walk Walk
-nodeWritten q depth due w =
+abbrev pub nodeHeldChecks : Question → ℕ → Walk → List Check
+nodeHeldChecks q depth w =
     let i = w .shape .nodes in
-    let x = nodeOf (getD (q .codes) i 0) in
+    let x = nodeHeld q w in
     let a = w .shape .atoms in
-    orStopped
-    (firstRefusal
-    (placeCheck i (w .shape) ∷
-    check 2 i (not (isUnused x)) ∷
+    placeCheck i (w .shape) ∷
+    check NOT-DUE i (not (isUnused x)) ∷
     sizeChecks i x depth (w .shape)
-    (check 4 i (not (isAtom x) || numbersFit (coefficientsOf q a) (constantOf q a)) ∷
-    [])))
-    (going (record { shape = grown x depth due (w .shape); bytes = w .bytes ++ nodeBytes q x a }))
+    (atomCheck i x (coefficientsOf q a) (constantOf q a) ∷
+    [])
+
+abbrev pub afterWritten : Question → ℕ → List ℕ → Walk → Walk
+afterWritten q depth due w = record { shape = grown (nodeHeld q w) depth due (w .shape); bytes = w .bytes ++ nodeBytes q (nodeHeld q w) (w .shape .atoms) }
+
+unfoldable pub nodeWritten : Question → ℕ → List ℕ → Walk → Progress Walk Walk
+nodeWritten q depth due w = orStopped (firstRefusal (nodeHeldChecks q depth w)) (going (afterWritten q depth due w))
 
 abbrev pub dueWritten : Question → List ℕ → Walk → Progress Walk Walk
 dueWritten q [] w = ended w
@@ -72,7 +84,7 @@ partWritten q w = dueWritten q (w .shape .due) w
 -- a code after the formula that is not zero, at its own place: the count codes from i on
 unfoldable pub codeChecks : ℕ → List ℕ → ℕ → List Check → List Check
 codeChecks zero codes i later = later
-codeChecks (suc count) codes i later = check 6 i (eqb (getD codes i 0) 0) ∷ codeChecks count codes (suc i) later
+codeChecks (suc count) codes i later = check LEFT-OVER i (eqb (getD codes i 0) 0) ∷ codeChecks count codes (suc i) later
 
 -- cell c of the coefficients is one of n in the row of one of the first atoms; the others are zero
 abbrev pub coefficientUsed : ℕ → ℕ → ℕ → Bool
@@ -82,13 +94,16 @@ unfoldable pub numbersClear : Question → ℕ → Bool
 numbersClear q atoms =
     allFrom (λ c z. coefficientUsed (q .n) atoms c || eqZ z (pos 0)) 0 (q .coefficients) && allFrom (λ i z. ltb i atoms || eqZ z (pos 0)) 0 (q .constants)
 
-unfoldable pub leftOver : Question → Shape → List Check
-leftOver q s = codeChecks (mostNodes - s .nodes) (q .codes) (s .nodes) (check 6 mostNodes (numbersClear q (s .atoms)) ∷ [])
+abbrev pub numberChecks : Question → ℕ → List Check
+numberChecks q atoms = check LEFT-OVER mostNodes (numbersClear q atoms) ∷ []
+
+unfoldable pub leftOverChecks : Question → Shape → List Check
+leftOverChecks q s = codeChecks (mostNodes - s .nodes) (q .codes) (s .nodes) (numberChecks q (s .atoms))
 
 unfoldable pub endWritten : Question → Progress Walk Walk → Progress Walk Walk
 endWritten q (stopped r) = stopped r
-endWritten q (going w) = stopped (refusal 5 mostNodes)
-endWritten q (ended w) = orStopped (firstRefusal (leftOver q (w .shape))) (ended (record { shape = w .shape; bytes = w .bytes ++ recordBytes endKind [] }))
+endWritten q (going w) = stopped (refusal TOO-MANY mostNodes)
+endWritten q (ended w) = orStopped (firstRefusal (leftOverChecks q (w .shape))) (ended (record { shape = w .shape; bytes = w .bytes ++ recordBytes endKind [] }))
 
 -- no more than 64 nodes, and the end of the formula
 unfoldable pub written : Question → Progress Walk Walk
@@ -103,11 +118,11 @@ pub record Wrote : Type 0 where
 -- whether the bytes have room comes first
 abbrev pub fitted : Bool → List ℕ → List ℕ → Wrote
 fitted true bytes buffer = record { answer = WriteAnswer.Written (length bytes); buffer = atFront bytes buffer }
-fitted false bytes buffer = record { answer = WriteAnswer.Refused (refusal 8 0); buffer = buffer }
+fitted false bytes buffer = record { answer = WriteAnswer.Refused (refusal TOO-SHORT 0); buffer = buffer }
 
 abbrev pub wroteOf : Progress Walk Walk → List ℕ → Wrote
 wroteOf (stopped r) buffer = record { answer = WriteAnswer.Refused r; buffer = buffer }
-wroteOf (going w) buffer = record { answer = WriteAnswer.Refused (refusal 5 mostNodes); buffer = buffer }
+wroteOf (going w) buffer = record { answer = WriteAnswer.Refused (refusal TOO-MANY mostNodes); buffer = buffer }
 wroteOf (ended w) buffer = fitted (leb (length (w .bytes)) (length buffer)) (w .bytes) buffer
 
 unfoldable pub wrote : Question → List ℕ → Wrote

@@ -2,7 +2,7 @@
 // What the calls must do is defined in specs/; the calls themselves are in the crates above.
 ghost use mathlib.Core.Path.{_≡_};
 ghost use Prim.Native.Nat.{_^_, _≤_};
-ghost use Rattle.scope.specs.Sizes.{limits};
+ghost use Rattle.scope.specs.Sizes.{limits, mostLetters, mostVariables};
 ghost use Rattle.scope.specs.Question.{nodeOf, isAtom, emptyQuestion};
 
 // A held question. Unused entries are zero.
@@ -31,6 +31,9 @@ impl Question {
     pub const VALUE: u64 = 1_099_511_627_775;
 
     pub const STATES: usize = 65_535;
+
+    // The bytes of the longest question: the head, every node's header, every atom's numbers, the end.
+    pub const BYTES: usize = 5 + 4 * Self::NODES + 4 * (Self::VARIABLES + 1) * Self::ATOMS + 4;
 
     // The coefficients of all atoms, a row of `VARIABLES` for each.
     pub const COEFFICIENTS: usize = Self::VARIABLES * Self::ATOMS;
@@ -63,6 +66,7 @@ impl Question {
             constant: Self::CONSTANT,
             value: Self::VALUE,
             states: Self::STATES,
+            bytes: Self::BYTES,
         }
     }
 }
@@ -76,8 +80,8 @@ pub fn is_atom(code: u8) -> bool
 
 // How many letters there are for so many variables.
 pub fn letters(n: usize) -> usize
-    requires { ⌜ n ≤ 6 ⌝ }
-    ensures { λ r. ⌜ (r ≡ 2 ^ n) × (r ≤ 64) ⌝ }
+    requires { ⌜ n ≤ mostVariables ⌝ }
+    ensures { λ r. ⌜ (r ≡ 2 ^ n) × (r ≤ mostLetters) ⌝ }
 {
     1 << n
 }
@@ -92,12 +96,37 @@ pub struct Limits {
     pub constant: i32,
     pub value: u64,
     pub states: usize,
+    pub bytes: usize,
 }
 
 // Why a call was refused: document 01's number, and the place.
 pub struct Refusal {
     pub number: u8,
     pub place: usize,
+}
+
+impl Refusal {
+    pub const BYTES_END: u8 = 1;
+
+    pub const NOT_DUE: u8 = 2;
+
+    pub const BODY_LENGTH: u8 = 3;
+
+    pub const BEYOND_LIMIT: u8 = 4;
+
+    pub const TOO_MANY: u8 = 5;
+
+    pub const LEFT_OVER: u8 = 6;
+
+    pub const NO_ROOM: u8 = 7;
+
+    pub const TOO_SHORT: u8 = 8;
+
+    pub const VALUES: u8 = 9;
+
+    pub const LETTER: u8 = 10;
+
+    pub const TABLE: u8 = 11;
 }
 
 // A record step: the kind, where the body starts, its length, and where the next record starts.

@@ -15,17 +15,18 @@ use lib.IntN.{ℤ, pos, natAbs, _+ℤ_}
 use mir.Syntax.{w32}
 use mir.Val.{SFits}
 use Rattle.scope.specs.States.{sumAt, sumFrom}
-use Rattle.theory.specs.Magnitude.{abs-add, fits-abs}
-use Rattle.theory.specs.Sums.{Small, small-getD, small-take, sumAt-small, sum-without, sum-with}
+use Rattle.theory.specs.Entries.KeyCells.{mostSum}
+use Rattle.theory.specs.Numbers.Magnitude.{abs-add, fits-abs}
+use Rattle.theory.specs.Numbers.Sums.{Small, small-getD, small-take, sumAt-small, sum-without, sum-with}
 use Rattle.step.specs.Eight.{listed, length-listed, getD-listed, padded, getD-padded, padded-next}
-use Rattle.step.specs.Cells.{digitAdds, Coefficients, Sums, Adding, Added}
+use Rattle.step.specs.Cells.{digitAdds, Coefficients, Sums, Adding, SumsAdded}
 
 -- ---- cells
 
-pub added-none : {adds sums : List ℤ} {from to many : ℕ} → Adding adds sums from to many → Added adds sums sums from to 0
+pub added-none : {adds sums : List ℤ} {from to many : ℕ} → Adding adds sums from to many → SumsAdded adds sums sums from to 0
 added-none a = record { whole = a .whole; same = λ k h. refl; more = below-none _ }
 
-module _ {adds before sums : List ℤ} {from to : ℕ} (a : Adding adds before from to 8) (i : ℕ) (h : i < 8) (s : Added adds before sums from to i) where
+module _ {adds before sums : List ℤ} {from to : ℕ} (a : Adding adds before from to 8) (i : ℕ) (h : i < 8) (s : SumsAdded adds before sums from to i) where
   -- what the next cell becomes
   abbrev next : ℤ
   next = getD sums (from + i) (pos 0) +ℤ getD adds i (pos 0)
@@ -35,10 +36,10 @@ module _ {adds before sums : List ℤ} {from to : ℕ} (a : Adding adds before f
 
   pub next-fits : SFits w32 next
   next-fits =
-      let z : natAbs (getD sums (from + i) (pos 0)) ≤ 24576 = rw cell-same (a .sums-small i h) in
+      let z : natAbs (getD sums (from + i) (pos 0)) ≤ mostSum = rw cell-same (a .sums-small i h) in
       fits-abs w32 next (omega (arith, abs-add (getD sums (from + i) (pos 0)) (getD adds i (pos 0)), z, a .adds-small i (omega arith)))
 
-  pub added-next : Added adds before (set sums (to + i) next) from to (i + 1)
+  pub added-next : SumsAdded adds before (set sums (to + i) next) from to (i + 1)
   added-next = record {
     whole = length-set sums (to + i) next ∙ s .whole;
     same = λ k l. getD-set-other sums (to + i) k next (pos 0) (λ e. omega arith) ∙ s .same k l;
@@ -49,7 +50,7 @@ module _ {adds before sums : List ℤ} {from to : ℕ} (a : Adding adds before f
 
 -- ---- rows
 
-module _ {adds before sums : List ℤ} {count letter : ℕ} (l : letter < count) (s : Added adds before sums 0 (8 * count) (8 * letter)) where
+module _ {adds before sums : List ℤ} {count letter : ℕ} (l : letter < count) (s : SumsAdded adds before sums 0 (8 * count) (8 * letter)) where
   pub row-asked : Adding adds before 0 (8 * count) (8 * count) → Adding adds sums (8 * letter) (8 * (count + letter)) 8
   row-asked a = record {
     whole = s .whole;
@@ -61,7 +62,7 @@ module _ {adds before sums : List ℤ} {count letter : ℕ} (l : letter < count)
     adds-small = a .adds-small;
   }
 
-  pub row-added : {after : List ℤ} → Added adds sums after (8 * letter) (8 * (count + letter)) 8 → Added adds before after 0 (8 * count) (8 * (letter + 1))
+  pub row-added : {after : List ℤ} → SumsAdded adds sums after (8 * letter) (8 * (count + letter)) 8 → SumsAdded adds before after 0 (8 * count) (8 * (letter + 1))
   row-added {after} r = record {
     whole = r .whole;
     same = λ k h. r .same k (omega arith) ∙ s .same k h;
@@ -139,17 +140,17 @@ module _ {n m : ℕ} {cs : List ℤ} (c : Coefficients n m cs) where
         item-small : (i : ℕ) → i < m → natAbs (getD (row i) j (pos 0)) ≤ 4096
         item-small i h = rw (getD-take n (row i) j (pos 0) l) at (small-getD 4096 j (take n (row i)) (c .small i h))
 
-        sum-small : (letter i : ℕ) → i < m → natAbs (sumAt (take j (row i)) letter) ≤ 24576
+        sum-small : (letter i : ℕ) → i < m → natAbs (sumAt (take j (row i)) letter) ≤ mostSum
         sum-small letter i h =
             let least : j ≤ n = omega arith in
             let first : Small 4096 (take j (row i)) = rw (take-take j n (row i) least) at (small-take 4096 j (take n (row i)) (c .small i h)) in
             sumAt-small 4096 6 letter (take j (row i)) first (omega (arith, length-take j (row i), c .variables))
 
-        small : (letter i : ℕ) → letter < 2 ^ j → i < 8 → natAbs (getD sums (8 * letter + i) (pos 0)) ≤ 24576
+        small : (letter i : ℕ) → letter < 2 ^ j → i < 8 → natAbs (getD sums (8 * letter + i) (pos 0)) ≤ mostSum
         small letter i b h =
             by-cases (decLt i m) (λ p. rw (s .sum-is letter i b p) (sum-small letter i p)) (λ p. rw (s .blank letter i b (omega arith) h) (omega arith))
 
-    pub digit-added : {after : List ℤ} → Added (digitAdds m cs j) sums after 0 (8 * 2 ^ j) (8 * 2 ^ j) → Sums (j + 1) m cs after
+    pub digit-added : {after : List ℤ} → SumsAdded (digitAdds m cs j) sums after 0 (8 * 2 ^ j) (8 * 2 ^ j) → Sums (j + 1) m cs after
     digit-added {after} r = record {
       sum-is = λ letter i b h.
           let few : i < 8 = omega (arith, c .atoms) in

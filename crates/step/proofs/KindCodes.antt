@@ -9,8 +9,8 @@ use lib.Dec.{T}
 use lib.ListN.{length, getD, take, drop, set, take-append-drop, length-append}
 use lib.Seq.{take-suc}
 use Rattle.scope.specs.Question.{Node, unused, atom, nodeOf, codeOf, isUnused, isAtom, kindsOf}
-use Rattle.theory.specs.Records.{code-of-node}
-use Rattle.theory.specs.Noting.{kinds-append}
+use Rattle.theory.specs.Wire.Records.{code-of-node}
+use Rattle.theory.specs.Wire.Noting.{kinds-append}
 use Rattle.step.specs.Eight.{padded, padded-next}
 use Rattle.step.specs.Cells.{kindCode, kindCodes}
 
@@ -60,18 +60,18 @@ module _ (codes : List ℕ) (i : ℕ) (h : i < length codes) where
             ∙ length-append (kindCodes (take (i + 1) codes)) (kindCodes (drop (i + 1) codes))
 
 -- the kinds of the first i codes, in the array
-pub record Noted (codes : List ℕ) (i : ℕ) (kinds : List ℕ) (m : ℕ) : Type 0 where
+pub record KindsNoted (codes : List ℕ) (i : ℕ) (kinds : List ℕ) (m : ℕ) : Type 0 where
   pub kinds-are : kinds ≡ padded 0 (kindCodes (take i codes))
   pub count : m ≡ length (kindCodes (take i codes))
 
-pub noted-none : (codes : List ℕ) → Noted codes 0 (padded 0 []) 0
+pub noted-none : (codes : List ℕ) → KindsNoted codes 0 (padded 0 []) 0
 unfolding kindCodes kindsOf
 noted-none [] = record { kinds-are = refl; count = refl }
 noted-none (c ∷ codes) = record { kinds-are = refl; count = refl }
 
-module _ {codes : List ℕ} {i : ℕ} {kinds : List ℕ} {m : ℕ} (s : Noted codes i kinds m) (h : i < length codes) where
-  pub passed : isAtom (nodeOf (getD codes i 0)) ≡ false → Noted codes (i + 1) kinds m
-  passed n =
+module _ {codes : List ℕ} {i : ℕ} {kinds : List ℕ} {m : ℕ} (s : KindsNoted codes i kinds m) (h : i < length codes) where
+  pub kind-passed : isAtom (nodeOf (getD codes i 0)) ≡ false → KindsNoted codes (i + 1) kinds m
+  kind-passed n =
       let e = next-no codes i h n in
       record { kinds-are = rw e (s .kinds-are); count = rw e (s .count) }
 
@@ -79,8 +79,8 @@ module _ {codes : List ℕ} {i : ℕ} {kinds : List ℕ} {m : ℕ} (s : Noted co
     pub below-eight : m < 8
     below-eight = rw (s .count) (room codes i h y few)
 
-    pub noted : Noted codes (i + 1) (set kinds m (getD codes i 0)) (m + 1)
-    noted =
+    pub kind-noted : KindsNoted codes (i + 1) (set kinds m (getD codes i 0)) (m + 1)
+    kind-noted =
         let c = getD codes i 0 in
         let ks = kindCodes (take i codes) in
         record {

@@ -14,10 +14,13 @@ use mir.Val.{SFits, ofZ}
 use Rattle.scope.specs.Whole.{eqZ, even, half}
 use Rattle.scope.specs.Question.{equation, atMost}
 use Rattle.scope.specs.States.{live, dead, deadCell, cellOf, halved}
-use Rattle.theory.specs.Magnitude.{abs-sub, abs-half, fits-abs, rem-even, rem-odd}
-use Rattle.theory.specs.Integers.{eq→eqZ}
-use Rattle.theory.specs.Bits.{test-bits}
-use Rattle.step.specs.Cells.{kindOf, livePart, stepCell, CellFits}
+use Rattle.scope.specs.Sizes.{mostConstant}
+use Rattle.theory.specs.Entries.KeyCells.{mostSum}
+use Rattle.theory.specs.Wire.Records.{kindOfCode}
+use Rattle.theory.specs.Numbers.Magnitude.{abs-sub, abs-half, fits-abs, rem-even, rem-odd}
+use Rattle.theory.specs.Numbers.Integers.{eq→eqZ}
+use Rattle.theory.specs.Numbers.Bits.{test-bits}
+use Rattle.step.specs.Cells.{livePart, stepCell, CellFits}
 
 -- ---- tests
 
@@ -36,15 +39,15 @@ odd-test d = go (eqb (ofZ w32 (remZ d (pos 2))) 0) refl
 
 -- ---- a cell's step
 
-pub live-small : (cell : ℤ) → CellFits cell → natAbs (livePart cell) ≤ 1000000
+pub live-small : (cell : ℤ) → CellFits cell → natAbs (livePart cell) ≤ mostConstant
 live-small cell f = go (eqZ cell deadCell) refl
   where
-    go : (b : Bool) → eqZ cell deadCell ≡ b → natAbs (cond b (pos 0) cell) ≤ 1000000
+    go : (b : Bool) → eqZ cell deadCell ≡ b → natAbs (cond b (pos 0) cell) ≤ mostConstant
     go true e = omega arith
     go false e = ⊎-elim (λ d. absurd (let z : _≡_ {A = ℕ} 0 1 = cc (is-true (eqZ cell deadCell) (eq→eqZ cell deadCell d)) in omega arith)) (λ s. s) f
 
 pub step-by : (kind : ℕ) (cell sum : ℤ)
-    → cond (eqZ cell deadCell || (eqb kind 1 && not (even (livePart cell -ℤ sum)))) deadCell (half (livePart cell -ℤ sum)) ≡ stepCell (kindOf kind) cell sum
+    → cond (eqZ cell deadCell || (eqb kind 1 && not (even (livePart cell -ℤ sum)))) deadCell (half (livePart cell -ℤ sum)) ≡ stepCell (kindOfCode kind) cell sum
 unfolding stepCell cellOf
 step-by kind cell sum = go (eqZ cell deadCell) (eqb kind 1)
   where
@@ -66,7 +69,7 @@ pub record Sizes (e s : ℤ) : Type 0 where
   pub difference : SFits w32 (e -ℤ s)
   pub quotient : SFits w32 (quotZ (e -ℤ s) (pos 2))
 
-pub sizes : (e s : ℤ) → natAbs e ≤ 1000000 → natAbs s ≤ 24576 → Sizes e s
+pub sizes : (e s : ℤ) → natAbs e ≤ mostConstant → natAbs s ≤ mostSum → Sizes e s
 sizes e s he hs =
     let d : ℤ = e -ℤ s in
     record {

@@ -7,10 +7,12 @@ use lib.ListN.{length, getD, take, drop, length-map}
 use lib.IntN.{pos}
 use Rattle.scope.specs.declared.Question.{Question}
 use Rattle.scope.specs.Question.{Kind, equation, atMost, Atom, nodesOf, kindsOf, coefficientsOf, constantOf, atomsFrom, atomsOf, atomCount}
-use Rattle.theory.specs.Cells.{AtomsFit, fits-at, atoms-fit}
-use Rattle.theory.specs.Accepted.{WithinLimits}
-use Rattle.theory.specs.Answers.{atom-count}
-use Rattle.step.specs.Cells.{kindCode, kindOf, kindCodes, Coefficients}
+use Rattle.scope.specs.Sizes.{mostAtoms, mostVariables}
+use Rattle.theory.specs.Wire.Records.{kindOfCode}
+use Rattle.theory.specs.Entries.KeyCells.{AtomsFit, fits-at, atoms-fit}
+use Rattle.theory.specs.Wire.Accepted.{WithinLimits}
+use Rattle.theory.specs.Wire.Answers.{atom-count}
+use Rattle.step.specs.Cells.{kindCode, kindCodes, Coefficients}
 
 -- ---- atom i of a question, by its parts
 
@@ -33,7 +35,7 @@ from-constant q i j [] h = absurd (omega arith)
 from-constant q i zero (κ ∷ κs) h = let e : i + 0 ≡ i = omega arith in rw e
 from-constant q i (suc j) (κ ∷ κs) h = let e : i + suc j ≡ suc i + j = omega arith in rw e (from-constant q (suc i) j κs (omega arith))
 
-from-kind : (q : Question) (i j : ℕ) (κs : List Kind) → j < length κs → getD (atomsFrom q i κs) j noAtom .kind ≡ kindOf (getD (map kindCode κs) j 0)
+from-kind : (q : Question) (i j : ℕ) (κs : List Kind) → j < length κs → getD (atomsFrom q i κs) j noAtom .kind ≡ kindOfCode (getD (map kindCode κs) j 0)
 unfolding atomsFrom
 from-kind q i j [] h = absurd (omega arith)
 from-kind q i zero (equation ∷ κs) h = refl
@@ -49,7 +51,7 @@ module _ (q : Question) where
     within : i < length (kindsOf (nodesOf q))
     within = rw (atom-count q) at h
 
-    pub atom-coefficients : atomAt q i .coefficients ≡ take (q .n) (drop (6 * i) (q .coefficients))
+    pub atom-coefficients : atomAt q i .coefficients ≡ take (q .n) (drop (mostVariables * i) (q .coefficients))
     unfolding atomsOf coefficientsOf
     atom-coefficients = let e : 0 + i ≡ i = omega arith in rw e at (from-coefficients q 0 i (kindsOf (nodesOf q)) within)
 
@@ -57,17 +59,17 @@ module _ (q : Question) where
     unfolding atomsOf constantOf
     atom-constant = let e : 0 + i ≡ i = omega arith in rw e at (from-constant q 0 i (kindsOf (nodesOf q)) within)
 
-    pub atom-kind : atomAt q i .kind ≡ kindOf (getD (kindCodes (q .codes)) i 0)
+    pub atom-kind : atomAt q i .kind ≡ kindOfCode (getD (kindCodes (q .codes)) i 0)
     unfolding atomsOf kindCodes nodesOf
     atom-kind = from-kind q 0 i (kindsOf (nodesOf q)) within
 
 -- ---- what the code asks
 
 module _ {q : Question} (w : WithinLimits q) where
-  pub few-atoms : atomCount q ≤ 8
+  pub few-atoms : atomCount q ≤ mostAtoms
   few-atoms = rw (atom-count q) (w .atoms)
 
-  pub few-kinds : length (kindCodes (q .codes)) ≤ 8
+  pub few-kinds : length (kindCodes (q .codes)) ≤ mostAtoms
   few-kinds = rw (kinds-count q) few-atoms
 
   pub limits-fit : AtomsFit (atomsOf q)

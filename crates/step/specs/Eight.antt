@@ -9,6 +9,7 @@ use mathlib.Core.Logic.{by-cases}
 use lib.ListN.{length, getD, drop, set, replicate, length-append, List·getD-append, List·getD-eq-default}
 use lib.Seq.{ext-getD, drop-cons, set-append-seam, set-at, getD-at, getD-append-add}
 use Rattle.scope.specs.Whole.{atFront}
+use Rattle.scope.specs.Sizes.{mostAtoms}
 
 -- f 0, f 1, .., the first n
 unfoldable pub listed {ℓ} : {A : Type ℓ} → (ℕ → A) → ℕ → List A
@@ -17,7 +18,7 @@ listed f (suc n) = listed f n ++ (f n ∷ [])
 
 -- a list of at most eight, filled up with z
 unfoldable pub padded {ℓ} : {A : Type ℓ} → A → List A → List A
-padded z l = l ++ replicate (8 - length l) z
+padded z l = l ++ replicate (mostAtoms - length l) z
 
 module _ {ℓ} {A : Type ℓ} where
   pub length-listed : (f : ℕ → A) (n : ℕ) → length (listed f n) ≡ n
@@ -44,13 +45,13 @@ module _ {ℓ} {A : Type ℓ} where
   unfolding padded
   getD-padded z l i =
       by-cases (decLt i (length l))
-      (λ p. List·getD-append l (replicate (8 - length l) z) z i p)
+      (λ p. List·getD-append l (replicate (mostAtoms - length l) z) z i p)
       (λ p.
       let e : length l + (i - length l) ≡ i = omega arith in
       let o : length l ≤ i = omega arith in
-      ap (λ (k : ℕ). getD (l ++ replicate (8 - length l) z) k z) (sym e)
-      ∙ getD-append-add l (replicate (8 - length l) z) (i - length l) z
-      ∙ filled (8 - length l) (i - length l)
+      ap (λ (k : ℕ). getD (l ++ replicate (mostAtoms - length l) z) k z) (sym e)
+      ∙ getD-append-add l (replicate (mostAtoms - length l) z) (i - length l) z
+      ∙ filled (mostAtoms - length l) (i - length l)
       ∙ sym (List·getD-eq-default l z o))
     where
       filled : (n k : ℕ) → getD (replicate n z) k z ≡ z
@@ -58,11 +59,11 @@ module _ {ℓ} {A : Type ℓ} where
       filled (suc n) zero = refl
       filled (suc n) (suc k) = filled n k
 
-  pub padded-next : (z v : A) (l : List A) → length l < 8 → set (padded z l) (length l) v ≡ padded z (l ++ (v ∷ []))
+  pub padded-next : (z v : A) (l : List A) → length l < mostAtoms → set (padded z l) (length l) v ≡ padded z (l ++ (v ∷ []))
   unfolding padded
   padded-next z v l h =
-      let e : 8 - length l ≡ suc (8 - (length l + 1)) = omega arith in
-      rw (e, length-append) (set-append-seam l z (replicate (8 - (length l + 1)) z) v ∙ sym (append-assoc l (v ∷ []) (replicate (8 - (length l + 1)) z)))
+      let e : mostAtoms - length l ≡ suc (mostAtoms - (length l + 1)) = omega arith in
+      rw (e, length-append) (set-append-seam l z (replicate (mostAtoms - (length l + 1)) z) v ∙ sym (append-assoc l (v ∷ []) (replicate (mostAtoms - (length l + 1)) z)))
 
   -- such a list at the front of a buffer: none of it, and one more element stored
   pub front-none : (f : ℕ → A) (buffer : List A) → buffer ≡ atFront (listed f 0) buffer

@@ -15,12 +15,14 @@ use Rattle.scope.specs.declared.Question.{Question}
 use Rattle.scope.specs.Whole.{eqZ}
 use Rattle.scope.specs.Question.{Kind, equation, atMost, Atom, atomsOf, atomCount}
 use Rattle.scope.specs.States.{Entry, dead, live, State, deadCell, cellOf, cellsOf, sumAt, startEntry, startOf, halved, stepEntry, stepOf, worth, worthsOf}
-use Rattle.theory.specs.Integers.{eqZ→eq}
-use Rattle.theory.specs.Range.{EntryIn, in-dead, in-live, StateIn, length-in, entry-in}
-use Rattle.theory.specs.Accepted.{WithinLimits}
-use Rattle.theory.specs.Cells.{AtomFits, fits-at, sum-size, live-size, live-not-dead}
+use Rattle.scope.specs.Sizes.{mostAtoms}
+use Rattle.theory.specs.Wire.Records.{kindOfCode}
+use Rattle.theory.specs.Numbers.Integers.{eqZ→eq}
+use Rattle.theory.specs.Entries.Range.{EntryIn, in-dead, in-live, StateIn, length-in, entry-in}
+use Rattle.theory.specs.Wire.Accepted.{WithinLimits}
+use Rattle.theory.specs.Entries.KeyCells.{AtomFits, fits-at, sum-size, live-size, live-not-dead, mostSum}
 use Rattle.step.specs.Eight.{length-listed, getD-listed, listed-is, padded, getD-padded}
-use Rattle.step.specs.Cells.{kindOf, kindCodes, stepCell, worthCell, stepAt, stepCells, worthAt, worthCells, CellFits, Sums}
+use Rattle.step.specs.Cells.{kindCodes, stepCell, worthCell, stepAt, stepCells, worthAt, worthCells, CellFits, Sums}
 use Rattle.step.specs.Atoms.{noAtom, atomAt, atom-coefficients, atom-constant, atom-kind, few-atoms, limits-fit}
 
 -- ---- one cell
@@ -74,16 +76,16 @@ module _ (kinds : List ℕ) (sums : List ℤ) (letter : ℕ) (row : List ℤ) wh
   step-cell width i h = getD-listed (stepAt kinds sums letter row) width i (pos 0) h
 
   -- the cells of fewer, of a row that has the same
-  pub step-front : (width : ℕ) → width ≤ 8 → take width (stepCells kinds 8 sums letter row) ≡ stepCells kinds width sums letter (take width row)
+  pub step-front : (width : ℕ) → width ≤ mostAtoms → take width (stepCells kinds mostAtoms sums letter row) ≡ stepCells kinds width sums letter (take width row)
   unfolding stepCells
   step-front width few =
-      sym (listed-is (pos 0) (stepAt kinds sums letter (take width row)) width (take width (stepCells kinds 8 sums letter row))
-      (simp (length-take, step-length 8) (omega arith))
-      (λ i h. rw (getD-take width row i (pos 0) h, getD-take width (stepCells kinds 8 sums letter row) i (pos 0) h, step-cell 8 i (omega arith))))
+      sym (listed-is (pos 0) (stepAt kinds sums letter (take width row)) width (take width (stepCells kinds mostAtoms sums letter row))
+      (simp (length-take, step-length mostAtoms) (omega arith))
+      (λ i h. rw (getD-take width row i (pos 0) h, getD-take width (stepCells kinds mostAtoms sums letter row) i (pos 0) h, step-cell mostAtoms i (omega arith))))
 
 -- letters with the same sums lead to the same
 pub step-alike : (kinds : List ℕ) (width : ℕ) (sums : List ℤ) (a b : ℕ) (row : List ℤ)
-    → ((i : ℕ) → i < width → getD sums (8 * a + i) (pos 0) ≡ getD sums (8 * b + i) (pos 0)) → stepCells kinds width sums a row ≡ stepCells kinds width sums b row
+    → ((i : ℕ) → i < width → getD sums (mostAtoms * a + i) (pos 0) ≡ getD sums (mostAtoms * b + i) (pos 0)) → stepCells kinds width sums a row ≡ stepCells kinds width sums b row
 unfolding stepCells
 step-alike kinds width sums a b row same =
     listed-is (pos 0) (stepAt kinds sums a row) width (stepCells kinds width sums b row) (step-length kinds sums b row width)
@@ -150,17 +152,17 @@ module _ {q : Question} {kinds : List ℕ} {m : ℕ} {sums : List ℤ} (t : Tabl
     counted : i < atomCount q
     counted = rw (t .count) at h
 
-    kind-at : kindOf (getD kinds i 0) ≡ atomAt q i .kind
+    kind-at : kindOfCode (getD kinds i 0) ≡ atomAt q i .kind
     kind-at = rw (t .kinds-are, getD-padded) (sym (atom-kind q i counted))
 
     fits : AtomFits (atomAt q i)
     unfolding atomCount
     fits = fits-at (limits-fit (t .limits)) i noAtom counted
 
-    sum-at : (letter : ℕ) → letter < 2 ^ q .n → getD sums (8 * letter + i) (pos 0) ≡ sumAt (atomAt q i .coefficients) letter
+    sum-at : (letter : ℕ) → letter < 2 ^ q .n → getD sums (mostAtoms * letter + i) (pos 0) ≡ sumAt (atomAt q i .coefficients) letter
     sum-at letter l = t .sums-are .sum-is letter i l h ∙ ap (λ (cs : List ℤ). sumAt cs letter) (sym (atom-coefficients q i counted))
 
-  pub sums-small : (letter i : ℕ) → letter < 2 ^ q .n → i < 8 → natAbs (getD sums (8 * letter + i) (pos 0)) ≤ 24576
+  pub sums-small : (letter i : ℕ) → letter < 2 ^ q .n → i < mostAtoms → natAbs (getD sums (mostAtoms * letter + i) (pos 0)) ≤ mostSum
   sums-small letter i l p =
       by-cases (decLt i m)
       (λ h. rw (sum-at i h letter l) (sum-size (fits i h) letter))
@@ -184,9 +186,9 @@ module _ {q : Question} {kinds : List ℕ} {m : ℕ} {sums : List ℤ} (t : Tabl
     cells-fit i h = rw (key-at i h) (cell-fits (fits i h) (in-at i h))
 
     -- its target
-    pub stepped : (letter : ℕ) → letter < 2 ^ q .n → stepCells kinds m sums letter row ≡ cellsOf (stepOf (atomsOf q) es letter)
+    pub row-steps : (letter : ℕ) → letter < 2 ^ q .n → stepCells kinds m sums letter row ≡ cellsOf (stepOf (atomsOf q) es letter)
     unfolding stepCells
-    stepped letter l =
+    row-steps letter l =
         let next = stepOf (atomsOf q) es letter in
         listed-is (pos 0) (stepAt kinds sums letter row) m (cellsOf next)
         (length-cells next ∙ length-step (atomsOf q) es letter long ∙ counts)
@@ -198,8 +200,8 @@ module _ {q : Question} {kinds : List ℕ} {m : ℕ} {sums : List ℤ} (t : Tabl
     pub worths : (i : ℕ) → i < m → getD (worthCells kinds row) i false ≡ getD (worthsOf (atomsOf q) es) i false
     unfolding worthCells
     worths i h =
-        let few : i < 8 = omega (arith, t .count, few-atoms (t .limits)) in
-        rw (getD-listed (worthAt kinds row) 8 i false few, kind-at i h, key-at i h)
+        let few : i < mostAtoms = omega (arith, t .count, few-atoms (t .limits)) in
+        rw (getD-listed (worthAt kinds row) mostAtoms i false few, kind-at i h, key-at i h)
         (cell-worth (atomAt q i) (getD es i noEntry) ∙ sym (worth-at (atomsOf q) es i long (rw counts h)))
 
 -- ---- the start

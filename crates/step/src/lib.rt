@@ -10,8 +10,11 @@ ghost use lib.ListN.{length};
 ghost use lib.IntN.{natAbs, _-ℤ_};
 ghost use Rattle.scope.specs.Whole.{eqZ, even};
 ghost use Rattle.scope.specs.States.{deadCell};
+ghost use Rattle.scope.specs.Sizes.{mostAtoms, mostCoefficients, mostConstant, mostNodes, mostVariables};
+ghost use Rattle.theory.specs.Entries.KeyCells.{mostSum};
+ghost use Rattle.theory.specs.Wire.Records.{kindOfCode};
 ghost use Rattle.step.specs.Eight.{padded};
-ghost use Rattle.step.specs.Cells.{kindOf, kindCodes, livePart, stepCell, worthCell, stepCells, worthCells, digitAdds, CellFits, Stepping, Coefficients, Sums, Adding, Added};
+ghost use Rattle.step.specs.Cells.{kindCodes, livePart, stepCell, worthCell, stepCells, worthCells, digitAdds, CellFits, Stepping, Coefficients, Sums, Adding, SumsAdded};
 
 // Every letter's sum of every atom.
 pub const SUMS: usize = Question::LETTERS * Question::ATOMS;
@@ -33,7 +36,7 @@ fn live_part(cell: i32) -> i32
 }
 
 fn is_odd(cell: i32, sum: i32) -> bool
-    requires { ⌜ (natAbs cell ≤ 1000000) × (natAbs sum ≤ 24576) ⌝ }
+    requires { ⌜ (natAbs cell ≤ mostConstant) × (natAbs sum ≤ mostSum) ⌝ }
     ensures { λ r. ⌜ r ≡ not (even (cell -ℤ sum)) ⌝ }
 {
     (cell - sum) % 2 != 0
@@ -42,8 +45,8 @@ fn is_odd(cell: i32, sum: i32) -> bool
 // What a cell becomes, where the letter's sum of its atom is given. Every part is worked and none is passed over, so that eight cells are
 // stepped at once.
 fn step_cell(kind: u8, cell: i32, sum: i32) -> i32
-    requires { ⌜ CellFits cell × (natAbs sum ≤ 24576) ⌝ }
-    ensures { λ r. ⌜ r ≡ stepCell (kindOf kind) cell sum ⌝ }
+    requires { ⌜ CellFits cell × (natAbs sum ≤ mostSum) ⌝ }
+    ensures { λ r. ⌜ r ≡ stepCell (kindOfCode kind) cell sum ⌝ }
 {
     let live = live_part(cell);
     let half = floor_half(live, sum);
@@ -63,7 +66,7 @@ pub fn step_row(
     row: [i32; Question::ATOMS],
 ) -> [i32; Question::ATOMS]
     requires { ⌜ Stepping (now sums) letter row ⌝ }
-    ensures { λ r. ⌜ r ≡ stepCells kinds 8 (now (sums .entry)) letter row ⌝ }
+    ensures { λ r. ⌜ r ≡ stepCells kinds mostAtoms (now (sums .entry)) letter row ⌝ }
 {
     let base = Question::ATOMS * letter;
     let mut target = [0i32; Question::ATOMS];
@@ -77,7 +80,7 @@ pub fn step_row(
 
 // What an atom is worth at its cell: a dead cell is below zero.
 fn worth_cell(kind: u8, cell: i32) -> bool
-    ensures { λ r. ⌜ r ≡ worthCell (kindOf kind) cell ⌝ }
+    ensures { λ r. ⌜ r ≡ worthCell (kindOfCode kind) cell ⌝ }
 {
     if kind == 1 { cell == 0 } else { 0 <= cell }
 }
@@ -105,7 +108,7 @@ pub struct Kinds {
 }
 
 pub fn kinds_of(codes: &[u8; Question::NODES]) -> Kinds
-    requires { ⌜ (length (now codes) ≡ 64) × (length (kindCodes (now codes)) ≤ 8) ⌝ }
+    requires { ⌜ (length (now codes) ≡ mostNodes) × (length (kindCodes (now codes)) ≤ mostAtoms) ⌝ }
     ensures { λ r. ⌜ (r .kinds ≡ padded 0 (kindCodes (now (codes .entry)))) × (r .m ≡ length (kindCodes (now (codes .entry)))) ⌝ }
 {
     let mut kinds = [0u8; Question::ATOMS];
@@ -128,7 +131,7 @@ fn digit_adds(
     coefficients: &[i32; Question::COEFFICIENTS],
     j: usize,
 ) -> [i32; Question::ATOMS]
-    requires { ⌜ (m ≤ 8) × (j < 6) × (length (now coefficients) ≡ 48) ⌝ }
+    requires { ⌜ (m ≤ mostAtoms) × (j < mostVariables) × (length (now coefficients) ≡ mostCoefficients) ⌝ }
     ensures { λ r. ⌜ r ≡ digitAdds m (now (coefficients .entry)) j ⌝ }
 {
     let mut adds = [0i32; Question::ATOMS];
@@ -142,8 +145,8 @@ fn digit_adds(
 
 // The sums of one letter, with what a digit adds to them, as those of another.
 fn digit_row(sums: &mut [i32; SUMS], from: usize, to: usize, adds: [i32; Question::ATOMS])
-    requires { ⌜ Adding adds (now sums) from to 8 ⌝ }
-    ensures { λ _. ⌜ Added adds (now (sums .entry)) (now (sums .exit)) from to 8 ⌝ }
+    requires { ⌜ Adding adds (now sums) from to mostAtoms ⌝ }
+    ensures { λ _. ⌜ SumsAdded adds (now (sums .entry)) (now (sums .exit)) from to mostAtoms ⌝ }
 {
     let mut i = 0;
     while i < Question::ATOMS {
@@ -154,8 +157,8 @@ fn digit_row(sums: &mut [i32; SUMS], from: usize, to: usize, adds: [i32; Questio
 
 // The sums of the first `count` letters, with what a digit adds to them, as those of as many letters more.
 fn digit_sums(sums: &mut [i32; SUMS], count: usize, adds: [i32; Question::ATOMS])
-    requires { ⌜ Adding adds (now sums) 0 (8 * count) (8 * count) ⌝ }
-    ensures { λ _. ⌜ Added adds (now (sums .entry)) (now (sums .exit)) 0 (8 * count) (8 * count) ⌝ }
+    requires { ⌜ Adding adds (now sums) 0 (mostAtoms * count) (mostAtoms * count) ⌝ }
+    ensures { λ _. ⌜ SumsAdded adds (now (sums .entry)) (now (sums .exit)) 0 (mostAtoms * count) (mostAtoms * count) ⌝ }
 {
     let mut letter = 0;
     while letter < count {

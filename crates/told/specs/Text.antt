@@ -30,8 +30,8 @@ numbers [] = []
 numbers (v ∷ vs) = spaced v ++ numbers vs
 
 -- a line is what it is about, what it says, and the line's end
-abbrev pub line : List ℕ → List ℕ → List ℕ
-line about said = about ++ (said ++ (10 ∷ []))
+abbrev pub lineOf : List ℕ → List ℕ → List ℕ
+lineOf about said = about ++ (said ++ (10 ∷ []))
 
 -- ---- the lines
 
@@ -44,40 +44,40 @@ abbrev pub valuesSaid : ℕ → Word → List ℕ
 valuesSaid n w = valuesBy (spelt n 1 w) n w
 
 abbrev pub valuesLine : ℕ → Word → List ℕ
-valuesLine n w = line (ascii "values") (valuesSaid n w)
+valuesLine n w = lineOf (ascii "values") (valuesSaid n w)
 
 -- the asking program's word buffer; no word of it is longer
-abbrev pub mostLetters : ℕ
-mostLetters = 1024
+abbrev pub toldLetters : ℕ
+toldLetters = 1024
 
 abbrev pub lettersSaid : Word → List ℕ
-lettersSaid w = cond (eqb (length w) 0) (ascii " none") (cond (leb (length w) mostLetters) (numbers w) (ascii " long"))
+lettersSaid w = cond (eqb (length w) 0) (ascii " none") (cond (leb (length w) toldLetters) (numbers w) (ascii " long"))
 
 abbrev pub lettersLine : Word → List ℕ
-lettersLine w = line (ascii "letters") (lettersSaid w)
+lettersLine w = lineOf (ascii "letters") (lettersSaid w)
 
 abbrev pub statesLine : ℕ → List ℕ
-statesLine states = line (ascii "states") (spaced states)
+statesLine states = lineOf (ascii "states") (spaced states)
 
 -- ---- the text of an answer
 
 unfoldable pub foundText : ℕ → ℕ → Word → List ℕ
-foundText n states w = line (ascii "verdict") (ascii " found") ++ (valuesLine n w ++ (lettersLine w ++ statesLine states))
+foundText n states w = lineOf (ascii "verdict") (ascii " found") ++ (valuesLine n w ++ (lettersLine w ++ statesLine states))
 
 -- found, and the word is not at hand; the asking program's word buffer is never too short
 unfoldable pub shortText : ℕ → List ℕ
 shortText states =
-    line (ascii "verdict") (ascii " found") ++
-    (line (ascii "values") (ascii " long") ++ (line (ascii "letters") (ascii " long") ++ statesLine states))
+    lineOf (ascii "verdict") (ascii " found") ++
+    (lineOf (ascii "values") (ascii " long") ++ (lineOf (ascii "letters") (ascii " long") ++ statesLine states))
 
 unfoldable pub neverText : ℕ → List ℕ
-neverText states = line (ascii "verdict") (ascii " never") ++ statesLine states
+neverText states = lineOf (ascii "verdict") (ascii " never") ++ statesLine states
 
 unfoldable pub noRoomText : ℕ → List ℕ
-noRoomText states = line (ascii "verdict") (ascii " no-room") ++ statesLine states
+noRoomText states = lineOf (ascii "verdict") (ascii " no-room") ++ statesLine states
 
 unfoldable pub refusedText : Refusal → List ℕ
-refusedText r = line (ascii "refused") (spaced (r .number) ++ (ascii " at" ++ spaced (r .place)))
+refusedText r = lineOf (ascii "refused") (spaced (r .number) ++ (ascii " at" ++ spaced (r .place)))
 
 -- the word is at the front of its buffer
 abbrev pub textOf : ℕ → DecideAnswer → List ℕ → List ℕ
@@ -109,6 +109,6 @@ abbrev pub longest : ℕ
 longest = 4352
 
 -- what telling leaves
-pub record Tells (n : ℕ) (answer : DecideAnswer) (word out : List ℕ) (r : ℕ) (after : List ℕ) : Type 0 where
+pub record TextTells (n : ℕ) (answer : DecideAnswer) (word out : List ℕ) (r : ℕ) (after : List ℕ) : Type 0 where
   pub is : telling r after ≡ told n answer word out
   pub room : longest ≤ length out → length (textOf n answer word) ≤ length out

@@ -1,5 +1,5 @@
 -- What a caller of `tell` learns: where the buffer has room for every text, its front is the text; and of a found word, document 01's test for its values.
-use Prim.Native.Nat.{ℕ, _+_, _≤_, _<_}
+use Prim.Native.Nat.{ℕ, _≤_, _<_}
 use native.Mathlib.Omega.{arith}
 use mathlib.Core.Path.{_≡_, ap}
 use mathlib.Core.Bool.{true}
@@ -12,12 +12,12 @@ use Rattle.scope.specs.Whole.{atFront}
 use Rattle.scope.specs.Sizes.{variablesFit}
 use Rattle.scope.specs.Refusals.{firstRefusal}
 use Rattle.scope.specs.Words.{Word, lettersFit, spelled, spelt}
-use Rattle.theory.specs.Tests.{from-one}
+use Rattle.theory.specs.Numbers.Tests.{from-one}
 use Rattle.told.specs.Values.{Spellable, spelt-value}
-use Rattle.told.specs.Text.{ascii, numbers, valuesSaid, longest, textOf, Telling, telling, told, Tells}
+use Rattle.told.specs.Text.{ascii, numbers, valuesSaid, longest, textOf, Telling, telling, told, TextTells}
 
 -- a text that has room stands at the front
-pub told-whole : (n : ℕ) (answer : DecideAnswer) (word out : List ℕ) (r : ℕ) (l : List ℕ) → Tells n answer word out r l → longest ≤ length out
+pub told-whole : (n : ℕ) (answer : DecideAnswer) (word out : List ℕ) (r : ℕ) (l : List ℕ) → TextTells n answer word out r l → longest ≤ length out
     → (r ≡ length (textOf n answer word)) × (take r l ≡ textOf n answer word) × (r ≤ length l)
 unfolding told atFront
 told-whole n answer word out r l t h =

@@ -14,7 +14,7 @@ use Rattle.scope.specs.declared.SpellAnswer.{SpellAnswer}
 use Rattle.scope.specs.Sizes.{variablesFit, mostSpelled}
 use Rattle.scope.specs.Refusals.{firstRefusal}
 use Rattle.scope.specs.Words.{Word, value, valuesFrom, spelled, spelt, lettersFit}
-use Rattle.theory.specs.Tests.{from-one}
+use Rattle.theory.specs.Numbers.Tests.{from-one}
 use Rattle.told.specs.Text.{spaced, numbers}
 
 -- a word that spelling takes for each of n variables

@@ -8,7 +8,7 @@ ghost use Prim.Native.Nat.{_+_, _-_, _*_, _≤_, _<_};
 ghost use lib.ListN.{length, take};
 ghost use Rattle.scope.specs.Words.{value, spelled};
 ghost use Rattle.told.specs.Decimal.{digitByte, decimal};
-ghost use Rattle.told.specs.Text.{spaced, numbers, valuesSaid, valuesLine, lettersSaid, lettersLine, statesLine, foundText, shortText, neverText, noRoomText, refusedText, longest, textOf, Tells};
+ghost use Rattle.told.specs.Text.{spaced, numbers, valuesSaid, valuesLine, lettersSaid, lettersLine, statesLine, foundText, shortText, neverText, noRoomText, refusedText, longest, textOf, TextTells};
 ghost use Rattle.told.specs.Writers.{Put};
 ghost use Rattle.told.specs.Values.{Spellable};
 
@@ -241,7 +241,7 @@ fn put_text(n: usize, answer: DecideAnswer, word: &[u8], out: &mut [u8]) -> usiz
 // Puts the text of an answer at the front of out and answers its length; 0, and out as it was, where out is too short. The word is at the
 // front of its buffer.
 pub fn tell(n: usize, answer: DecideAnswer, word: &[u8], out: &mut [u8]) -> usize
-    ensures { λ r. ⌜ Tells n answer (now (word .entry)) (now (out .entry)) r (now (out .exit)) ⌝ }
+    ensures { λ r. ⌜ TextTells n answer (now (word .entry)) (now (out .entry)) r (now (out .exit)) ⌝ }
 {
     let mut text = [0u8; LONGEST];
     let length = put_text(n, answer, word, &mut text);

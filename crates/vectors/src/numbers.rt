@@ -1,93 +1,97 @@
 // Numbers as a line has them: decimal with a sign or without, lists of these joined by commas, and bytes in hexadecimal.
-// What cannot be read answers that it is not good.
-ghost use Prim.Native.Nat.{_≤_, _<_};
-ghost use lib.ListN.{length};
-use crate::lines::is_none;
-use crate::lines::stop;
-use crate::lines::stretch;
+ghost use Prim.Native.Nat.{_≤_};
+use compared::buffers::BYTE_MARK;
+use compared::buffers::stretch;
+use compared::text::word;
 
-pub struct Value {
-    pub good: bool,
-    pub value: u64,
+// What is read where there is no number.
+const NONE: u64 = 18_446_744_073_709_551_615;
+
+// A number below zero is told by this and its size.
+const BELOW: u64 = 9_223_372_036_854_775_808;
+
+// The bytes of a question in a line at most.
+pub const BYTES: usize = 2_048;
+
+fn byte_at(text: &[u8], i: usize) -> u8 {
+    if i < text.len() { text[i] } else { 0 }
 }
 
-pub struct Integer {
-    pub good: bool,
-    pub value: i32,
+// A number with one digit more; none where the byte is no digit or it has more than 64 bits.
+fn value_on(value: u64, b: u8) -> u64 {
+    let d = (b as u64 + 208) % 256;
+    if 9 < d {
+        return NONE;
+    }
+    if (u64::MAX - d) / 10 < value {
+        NONE
+    } else {
+        10 * value + d
+    }
 }
 
-// How many were read.
-pub struct Count {
-    pub good: bool,
-    pub n: usize,
-}
-
-// A decimal digit's worth; 10 for any other byte.
-fn digit(b: u8) -> u64
-    ensures { λ r. ⌜ r ≤ 10 ⌝ }
-{
-    if b < 48 {
-        return 10;
-    }
-    if 57 < b {
-        return 10;
-    }
-    (b - 48) as u64
-}
-
-// A hexadecimal digit's worth; 16 for any other byte.
-fn nibble(b: u8) -> u8
-    ensures { λ r. ⌜ r ≤ 16 ⌝ }
-{
-    if b < 48 {
-        return 16;
-    }
-    if b <= 57 {
-        return b - 48;
-    }
-    if b < 97 {
-        return 16;
-    }
-    if b <= 102 {
-        return b - 87;
-    }
-    16
+// What no digits make of the bytes that follow: no number where there are none.
+fn value_of_none(bytes: usize) -> u64 {
+    if bytes == 0 { NONE } else { 0 }
 }
 
 // A number without a sign, of 64 bits.
-pub fn number(word: &[u8]) -> Value {
-    let mut value: u64 = 0;
+fn value(text: &[u8]) -> u64 {
+    let mut value = value_of_none(text.len());
     let mut i = 0;
-    while i < word.len() {
-        let d = digit(word[i]);
-        if 9 < d {
-            return Value {
-                good: false,
-                value: 0,
-            };
-        }
-        if (u64::MAX - d) / 10 < value {
-            return Value {
-                good: false,
-                value: 0,
-            };
-        }
-        value = 10 * value + d;
+    while i < text.len() {
+        value = value_on(value, text[i]);
         i += 1;
     }
-    Value {
-        good: 0 < word.len(),
-        value,
-    }
+    value
 }
 
-// A number without a sign, as a size.
-pub fn size(word: &[u8]) -> Count {
-    let x = number(word);
-    Count {
-        good: x.good,
-        n: x.value as usize,
+// A number with a sign or without.
+pub fn number(text: &[u8]) -> u64 {
+    if byte_at(text, 0) != b'-' {
+        return value(text);
     }
+    let size = value(stretch(text, 1, text.len()));
+    if size < BELOW { BELOW + size } else { NONE }
+}
+
+// The number in a list's place.
+pub fn item(list: &[u8], i: usize) -> u64 {
+    number(word(list, i, b','))
+}
+
+// One more where it is so; nothing is counted that far.
+pub fn plus_if(so: bool, count: usize) -> usize {
+    if so {
+        if count < 1_000_000 {
+            return count + 1;
+        }
+    }
+    count
+}
+
+// How many marks a text has.
+pub fn marks(text: &[u8], mark: u8) -> usize {
+    let mut count = 0;
+    let mut i = 0;
+    while i < text.len() {
+        count = plus_if(text[i] == mark, count);
+        i += 1;
+    }
+    count
+}
+
+// How many numbers a list has; a list that is a dash alone has none.
+pub fn items(list: &[u8]) -> usize {
+    if check::same(list, b"-") {
+        return 0;
+    }
+    plus_if(true, marks(list, b','))
+}
+
+// A small number; one that is not small is told as the largest.
+pub fn small(number: u64) -> u8 {
+    if number < 256 { number as u8 } else { 255 }
 }
 
 fn negated(size: u64) -> i32
@@ -96,132 +100,58 @@ fn negated(size: u64) -> i32
     0 - size as i32
 }
 
-fn signed_of(below_zero: bool, x: Value) -> Integer {
-    let size = x.value;
-    if 2147483647 < size {
-        return Integer {
-            good: false,
-            value: 0,
-        };
+// A number of 32 bits; 0 where it has more.
+pub fn signed(number: u64) -> i32 {
+    if number <= 2_147_483_647 {
+        return number as i32;
     }
-    let good = x.good;
-    if below_zero {
-        let value = negated(size);
-        return Integer { good, value };
+    if number < BELOW {
+        return 0;
     }
-    let value = size as i32;
-    Integer { good, value }
+    if number - BELOW <= 2_147_483_647 {
+        negated(number - BELOW)
+    } else {
+        0
+    }
 }
 
-// A number of 32 bits with a sign or without.
-fn signed(word: &[u8]) -> Integer {
-    if 0 < word.len() {
-        if word[0] == b'-' {
-            return signed_of(true, number(stretch(word, 1, word.len())));
-        }
-    }
-    signed_of(false, number(word))
+// A hexadecimal digit's worth.
+fn nibble(b: u8) -> u8
+    ensures { λ r. ⌜ r ≤ 15 ⌝ }
+{
+    (b % 16 + b / 64 * 9) % 16
 }
 
-// Reads a list of numbers without a sign into the front of a buffer.
-pub fn numbers(word: &[u8], out: &mut [u64]) -> Count {
-    if is_none(word) {
-        return Count { good: true, n: 0 };
-    }
-    let mut at = 0;
-    let mut n = 0;
-    while n < out.len() {
-        let end = stop(word, at, b',');
-        let x = number(stretch(word, at, end));
-        if !x.good {
-            return Count { good: false, n: 0 };
-        }
-        let value = x.value;
-        out[n] = value;
-        n += 1;
-        if end == word.len() {
-            return Count { good: true, n };
-        }
-        at = end + 1;
-    }
-    Count { good: false, n: 0 }
+fn is_nibble(b: u8) -> bool {
+    ((48 <= b) & (b <= 57)) | ((97 <= b) & (b <= 102))
 }
 
-// The same with signs.
-pub fn signed_numbers(word: &[u8], out: &mut [i32]) -> Count {
-    if is_none(word) {
-        return Count { good: true, n: 0 };
-    }
-    let mut at = 0;
-    let mut n = 0;
-    while n < out.len() {
-        let end = stop(word, at, b',');
-        let x = signed(stretch(word, at, end));
-        if !x.good {
-            return Count { good: false, n: 0 };
-        }
-        let value = x.value;
-        out[n] = value;
-        n += 1;
-        if end == word.len() {
-            return Count { good: true, n };
-        }
-        at = end + 1;
-    }
-    Count { good: false, n: 0 }
-}
-
-// Reads a list of small numbers into the front of a buffer of bytes.
-pub fn small_numbers(word: &[u8], out: &mut [u8]) -> Count {
-    if is_none(word) {
-        return Count { good: true, n: 0 };
-    }
-    let mut at = 0;
-    let mut n = 0;
-    while n < out.len() {
-        let end = stop(word, at, b',');
-        let x = number(stretch(word, at, end));
-        if !x.good {
-            return Count { good: false, n: 0 };
-        }
-        let value = x.value;
-        if 255 < value {
-            return Count { good: false, n: 0 };
-        }
-        out[n] = value as u8;
-        n += 1;
-        if end == word.len() {
-            return Count { good: true, n };
-        }
-        at = end + 1;
-    }
-    Count { good: false, n: 0 }
-}
-
-// Reads bytes in hexadecimal into the front of a buffer.
-pub fn hexed(word: &[u8], out: &mut [u8]) -> Count {
-    if is_none(word) {
-        return Count { good: true, n: 0 };
-    }
-    let n = word.len() / 2;
-    if word.len() % 2 != 0 {
-        return Count { good: false, n: 0 };
-    }
-    if out.len() < n {
-        return Count { good: false, n: 0 };
-    }
+// Whether a text is of bytes in hexadecimal, and not too many.
+pub fn is_hex(text: &[u8]) -> bool {
+    let mut so = (text.len() % 2 == 0) & (text.len() / 2 <= BYTES);
     let mut i = 0;
-    while i < n {
-        let high = nibble(word[2 * i]);
-        let low = nibble(word[2 * i + 1]);
-        if 15 < high {
-            return Count { good: false, n: 0 };
-        }
-        if 15 < low {
-            return Count { good: false, n: 0 };
-        }
-        out[i] = 16 * high + low;
+    while i < text.len() {
+        so = so & is_nibble(byte_at(text, i));
         i += 1;
     }
-    Count { good: true, n }
+    so
+}
+
+// The byte in a place of a text in hexadecimal.
+fn hex_at(text: &[u8], i: usize) -> u8
+    requires { ⌜ i ≤ 2048 ⌝ }
+{
+    16 * nibble(byte_at(text, 2 * i)) + nibble(byte_at(text, 2 * i + 1))
+}
+
+// The bytes of a text in hexadecimal, at the front of marks.
+pub fn bytes_in(text: &[u8]) -> [u8; BYTES] {
+    let mut bytes = [BYTE_MARK; BYTES];
+    let n = text.len() / 2;
+    let mut i = 0;
+    while i < BYTES && i < n {
+        bytes[i] = hex_at(text, i);
+        i += 1;
+    }
+    bytes
 }

@@ -1,37 +1,45 @@
 // spell N VARIABLE LETTERS value V | refused NUMBER
-use crate::judging::refused_at_0;
-use crate::lines::stretch;
-use crate::lines::word;
-use crate::numbers::number;
-use crate::numbers::size;
-use crate::numbers::small_numbers;
+use crate::numbers::item;
+use crate::numbers::items;
+use crate::numbers::small;
+use crate::parts::is_named;
+use crate::parts::is_refused;
+use crate::parts::part;
+use crate::parts::part_number;
+use compared::buffers::BYTE_MARK;
+use compared::buffers::stretch;
 use scope::SpellAnswer;
 
 // The most letters in a line.
 pub const LETTERS: usize = 1_024;
 
+// The letters of a list, at the front of marks.
+pub fn letters_in(list: &[u8]) -> [u8; LETTERS] {
+    let mut letters = [BYTE_MARK; LETTERS];
+    let n = items(list);
+    let mut i = 0;
+    while i < LETTERS && i < n {
+        letters[i] = small(item(list, i));
+        i += 1;
+    }
+    letters
+}
+
+// The vectors of this call name no place of a refusal, and it is 0.
 fn answered(line: &[u8], answer: SpellAnswer) -> bool {
     match answer {
-        SpellAnswer::Value(value) => {
-            let wanted = number(word(line, 5));
-            check::same(word(line, 4), b"value") && wanted.good && wanted.value == value
-        }
-        SpellAnswer::Refused(refusal) => {
-            check::same(word(line, 4), b"refused") && refused_at_0(line, 5, refusal)
-        }
+        SpellAnswer::Value(value) => is_named(line, 4, b"value") & (part_number(line, 5) == value),
+        SpellAnswer::Refused(refusal) => is_refused(line, 4, refusal, 0),
     }
 }
 
 pub fn spell_right(line: &[u8]) -> bool {
-    let n = size(word(line, 1));
-    let variable = size(word(line, 2));
-    let mut letters = [0u8; LETTERS];
-    let count = small_numbers(word(line, 3), &mut letters);
-    if !n.good || !variable.good || !count.good {
-        return false;
-    }
+    let n = part_number(line, 1) as usize;
+    let variable = part_number(line, 2) as usize;
+    let list = part(line, 3);
+    let letters = letters_in(list);
     answered(
         line,
-        words::spell(n.n, variable.n, stretch(&letters, 0, count.n)),
+        words::spell(n, variable, stretch(&letters, 0, items(list))),
     )
 }

@@ -9,10 +9,12 @@ ghost use mir.Val.{toZ, ofZ};
 ghost use Rattle.scope.specs.Whole.{half};
 ghost use Rattle.scope.specs.Wire.{numberAt};
 ghost use Rattle.scope.specs.Writing.{numberBytes};
+ghost use Rattle.scope.specs.Sizes.{mostConstant};
+ghost use Rattle.theory.specs.Entries.KeyCells.{mostSum};
 
 // Half of what an entry leaves over a letter's sum, rounded towards minus infinity.
 pub fn floor_half(entry: i32, sum: i32) -> i32
-    requires { ⌜ (natAbs entry ≤ 1000000) × (natAbs sum ≤ 24576) ⌝ }
+    requires { ⌜ (natAbs entry ≤ mostConstant) × (natAbs sum ≤ mostSum) ⌝ }
     ensures { λ r. ⌜ r ≡ half (entry -ℤ sum) ⌝ }
 {
     let d = entry - sum;

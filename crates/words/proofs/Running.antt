@@ -5,20 +5,20 @@ use mathlib.Core.Bool.{Bool, true, false}
 use mathlib.Core.List.{List}
 use Rattle.scope.specs.declared.TruthAnswer.{TruthAnswer}
 use Rattle.scope.specs.Sizes.{variablesFit}
-use Rattle.scope.specs.Refusals.{refusal, firstRefusal}
+use Rattle.scope.specs.Refusals.{BEYOND-LIMIT, LETTER, TABLE, refusal, firstRefusal}
 use Rattle.scope.specs.Words.{Word, lettersFit}
 use Rattle.scope.specs.Running.{tableFits, saysYes, truthOf, ran}
 
 module _ (n : ℕ) (cells : List ℕ) (w : Word) where
-  pub ran-no-variables : variablesFit n ≡ false → ran n cells w ≡ TruthAnswer.Refused (refusal 4 0)
+  pub ran-no-variables : variablesFit n ≡ false → ran n cells w ≡ TruthAnswer.Refused (refusal BEYOND-LIMIT 0)
   unfolding ran firstRefusal
   ran-no-variables a = rw a
 
-  pub ran-no-table : variablesFit n ≡ true → tableFits n cells ≡ false → ran n cells w ≡ TruthAnswer.Refused (refusal 11 0)
+  pub ran-no-table : variablesFit n ≡ true → tableFits n cells ≡ false → ran n cells w ≡ TruthAnswer.Refused (refusal TABLE 0)
   unfolding ran firstRefusal
   ran-no-table a b = rw (a, b)
 
-  pub ran-no-letter : variablesFit n ≡ true → tableFits n cells ≡ true → lettersFit n w ≡ false → ran n cells w ≡ TruthAnswer.Refused (refusal 10 0)
+  pub ran-no-letter : variablesFit n ≡ true → tableFits n cells ≡ true → lettersFit n w ≡ false → ran n cells w ≡ TruthAnswer.Refused (refusal LETTER 0)
   unfolding ran firstRefusal
   ran-no-letter a b c = rw (a, b, c)
 

@@ -14,8 +14,8 @@ use borrow.Author.Tests.{eqb-true, leb-true, ltb-true, eq-eqb, ne-eqb}
 use Rattle.scope.specs.Whole.{allFrom}
 use Rattle.scope.specs.Building.{tableWidth}
 use Rattle.scope.specs.Running.{tableRows, cellFits, tableFits, rowAfter}
-use Rattle.words.specs.Tables.{Runs}
-use Rattle.theory.specs.Tests.{all-each, allFrom-each}
+use Rattle.words.specs.Tables.{TableRuns}
+use Rattle.theory.specs.Numbers.Tests.{all-each, allFrom-each}
 
 -- ---- the check, at a width
 
@@ -56,14 +56,14 @@ module _ (n width : ℕ) (cells : List ℕ) (e : width ≡ tableWidth n) where
 
 -- ---- what running leans on
 
-pub record Walk (n width rows : ℕ) (cells word : List ℕ) : Type 0 where
+pub record TableWalk (n width rows : ℕ) (cells word : List ℕ) : Type 0 where
   pub wide : width ≡ tableWidth n
   pub whole : rows * width ≡ length cells
   pub first : 0 < rows
   pub cell : (c : ℕ) → c < length cells → cellFits width rows c (getD cells c 0) ≡ true
   pub letter : (i : ℕ) → i < length word → getD word i 0 < 2 ^ n
 
-at-n : (n : ℕ) (cells word : List ℕ) → Runs n cells word → Walk n (tableWidth n) (tableRows n cells) cells word
+at-n : (n : ℕ) (cells word : List ℕ) → TableRuns n cells word → TableWalk n (tableWidth n) (tableRows n cells) cells word
 unfolding tableFits
 at-n n cells word r =
     let rows = tableRows n cells in
@@ -80,7 +80,7 @@ at-n n cells word r =
       letter = λ i h. ltb-true _ _ (all-each (λ (letter : ℕ). ltb letter (2 ^ n)) word 0 (r .letters) i h);
     }
 
-pub walk : {n width : ℕ} {cells word : List ℕ} → Runs n cells word → width ≡ tableWidth n → Walk n width (tableRows n cells) cells word
+pub walk : {n width : ℕ} {cells word : List ℕ} → TableRuns n cells word → width ≡ tableWidth n → TableWalk n width (tableRows n cells) cells word
 walk {n} {width} {cells} {word} r e = rw e (at-n n cells word r)
 
 -- a row below the rows ends within the cells
@@ -89,7 +89,7 @@ row-end s rows width h =
     let p : (s + 1) * width ≤ rows * width = mul-le-mul-right width (omega arith) in
     omega (arith, rw (add-mul s 1 width) at p)
 
-module _ {n width rows : ℕ} {cells word : List ℕ} (w : Walk n width rows cells word) (row : ℕ) (h : row < rows) where
+module _ {n width rows : ℕ} {cells word : List ℕ} (w : TableWalk n width rows cells word) (row : ℕ) (h : row < rows) where
   pub row-within : row * width + width ≤ length cells
   row-within = omega (arith, row-end row rows width h, w .whole)
 

@@ -7,7 +7,7 @@ use mathlib.Core.List.{[], _∷_}
 use lib.ListN.{length, getD, drop, length-drop}
 use lib.Seq.{drop-cons}
 use Rattle.scope.specs.Words.{Word, digit, value, valueFrom}
-use Rattle.theory.specs.Spelling.{digit-small, value-cons}
+use Rattle.theory.specs.Words.Spelling.{digit-small, value-cons}
 
 value-small : (w : Word) (j : ℕ) → value w j < 2 ^ length w
 unfolding value valueFrom

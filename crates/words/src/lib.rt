@@ -13,7 +13,8 @@ ghost use Rattle.scope.specs.Whole.{all, allFrom};
 ghost use Rattle.scope.specs.Words.{value, spelt};
 ghost use Rattle.scope.specs.Building.{tableWidth};
 ghost use Rattle.scope.specs.Running.{cellFits, tableFits, saysYes, ran};
-ghost use Rattle.words.specs.Tables.{Runs};
+ghost use Rattle.scope.specs.Sizes.{mostSpelled, mostVariables};
+ghost use Rattle.words.specs.Tables.{TableRuns};
 
 // The most letters of a word that is spelled out: its value fits 64 bits.
 const SPELLED: usize = 64;
@@ -42,7 +43,7 @@ fn letters_fit(limit: usize, word: &[u8]) -> bool
 
 // What a word of at most 64 letters spells for the variable at index j, from its last letter on.
 fn value_of(j: usize, word: &[u8]) -> u64
-    requires { ⌜ (j < 6) × (length (now word) ≤ 64) ⌝ }
+    requires { ⌜ (j < mostVariables) × (length (now word) ≤ mostSpelled) ⌝ }
     ensures { λ r. ⌜ r ≡ value (now (word .entry)) j ⌝ }
 {
     let mut v: u64 = 0;
@@ -66,23 +67,23 @@ pub fn spell(n: usize, variable: usize, word: &[u8]) -> SpellAnswer
     ensures { λ r. ⌜ r ≡ spelt n variable (now (word .entry)) ⌝ }
 {
     if !within(n, Question::VARIABLES) {
-        return spell_refused(4);
+        return spell_refused(Refusal::BEYOND_LIMIT);
     }
     if !within(variable, n) {
-        return spell_refused(4);
+        return spell_refused(Refusal::BEYOND_LIMIT);
     }
     if !letters_fit(letters(n), word) {
-        return spell_refused(10);
+        return spell_refused(Refusal::LETTER);
     }
     if SPELLED < word.len() {
-        return spell_refused(9);
+        return spell_refused(Refusal::VALUES);
     }
     SpellAnswer::Value(value_of(variable - 1, word))
 }
 
 // The cells of a table's row.
 fn table_width(n: usize) -> usize
-    requires { ⌜ n ≤ 6 ⌝ }
+    requires { ⌜ n ≤ mostVariables ⌝ }
     ensures { λ r. ⌜ r ≡ tableWidth n ⌝ }
 {
     1 + letters(n)
@@ -129,7 +130,7 @@ fn cells_fit(width: usize, rows: usize, cells: &[u16]) -> bool
 
 // Whether the cells are one or more whole rows, at most 65,535, of cells that fit.
 fn table_fits(n: usize, cells: &[u16]) -> bool
-    requires { ⌜ n ≤ 6 ⌝ }
+    requires { ⌜ n ≤ mostVariables ⌝ }
     ensures { λ r. ⌜ r ≡ tableFits n (now (cells .entry)) ⌝ }
 {
     let width = table_width(n);
@@ -145,7 +146,7 @@ fn table_fits(n: usize, cells: &[u16]) -> bool
 
 // Whether the word leads from row 0 to a row that accepts.
 fn says_yes(n: usize, cells: &[u16], word: &[u8]) -> bool
-    requires { ⌜ Runs n (now cells) (now word) ⌝ }
+    requires { ⌜ TableRuns n (now cells) (now word) ⌝ }
     ensures { λ r. ⌜ r ≡ saysYes n (now (cells .entry)) (now (word .entry)) ⌝ }
 {
     let width = table_width(n);
@@ -170,13 +171,13 @@ pub fn run(n: usize, cells: &[u16], word: &[u8]) -> TruthAnswer
     ensures { λ r. ⌜ r ≡ ran n (now (cells .entry)) (now (word .entry)) ⌝ }
 {
     if !within(n, Question::VARIABLES) {
-        return run_refused(4);
+        return run_refused(Refusal::BEYOND_LIMIT);
     }
     if !table_fits(n, cells) {
-        return run_refused(11);
+        return run_refused(Refusal::TABLE);
     }
     if !letters_fit(letters(n), word) {
-        return run_refused(10);
+        return run_refused(Refusal::LETTER);
     }
     if says_yes(n, cells, word) {
         return TruthAnswer::Yes;

@@ -8,7 +8,7 @@ use borrow.Author.Needs.{needs}
 use Rattle.scope.specs.declared.Held.{Held}
 use Rattle.scope.specs.declared.DecideAnswer.{DecideAnswer}
 use Rattle.scope.specs.Wire.{readHeld}
-use Rattle.told.specs.Text.{longest, textOf, Tells}
+use Rattle.told.specs.Text.{longest, textOf, TextTells}
 use Rattle.told.specs.Told.{told-whole}
 use Rattle.ask.specs.Asked.{variables, decidedFor, asked, Asked}
 use Rattle.ask.proofs.answer_to.Statement.{statement}
@@ -18,7 +18,7 @@ same-text : {n m : ℕ} {a b : DecideAnswer} {w v : List ℕ} → n ≡ m → a 
 same-text e f g = rw (e, f, g)
 
 is-asked : (bytes : List ℕ) (n : ℕ) (answer : DecideAnswer) (word out : List ℕ) (r : ℕ) (l : List ℕ)
-    → n ≡ readHeld bytes .question .n → answer ≡ decidedFor bytes .answer → word ≡ decidedFor bytes .word → longest ≤ length out → Tells n answer word out r l → Asked bytes r l
+    → n ≡ readHeld bytes .question .n → answer ≡ decidedFor bytes .answer → word ≡ decidedFor bytes .word → longest ≤ length out → TextTells n answer word out r l → Asked bytes r l
 unfolding asked variables
 is-asked bytes n answer word out r l e f g h t =
     let w = told-whole n answer word out r l t h in

@@ -3,7 +3,7 @@ use mathlib.Core.List.{[], _∷_}
 use Prim.Native.Nat.{ℕ, _≤_}
 use native.Mathlib.Omega.{arith}
 use borrow.Author.Needs.{needs}
-use Rattle.explore.specs.Standing.{withRows}
+use Rattle.plan.specs.Moves.{withRows}
 use Rattle.build.specs.Filling.{Filling, FilledFrom, any-path, few-filling, few-built, many-filling, many-stands, many-built}
 use Rattle.build.proofs.fill.Statement.{statement}
 use Rattle.build.proofs.fill.Tie as tie

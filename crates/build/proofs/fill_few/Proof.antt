@@ -1,7 +1,8 @@
 -- `build::fill_few` meets its contract: its index has 256 buckets, and no row. Assumes nothing.
-use mathlib.Core.Path.{refl}
+use Prim.Native.Nat.{ℕ}
+use mathlib.Core.Path.{refl, sym}
 use native.Mathlib.Omega.{arith}
-use borrow.Author.Needs.{needs}
+use lib.ListN.{length-replicate}
 use Rattle.explore.specs.Stages.{none-linked}
 use Rattle.build.specs.Filling.{from-start}
 use Rattle.build.proofs.fill_few.Statement.{statement}
@@ -20,4 +21,5 @@ returns c = rw (c .before .before .before .before .before .before .before .going
 pub fill-few-spec : {M : Type 1} → statement M
 fill-few-spec =
     tie.close
-    (tie.spec (λ c. search needs) (λ c κs. search needs) fill-from-requires (λ c. search needs) (λ c. search needs) (λ c. search needs) returns)
+    (tie.spec (λ c. sym (length-replicate {A = ℕ} 512 65535)) (λ c κs. tt) fill-from-requires (λ c. c .before .before .before .before .before .before .fill-from .kept .1 .1 .0) (λ c. c .before .before .before .before .before .before .fill-from .kept .1 .1 .1 .0)
+    (λ c. c .before .before .before .before .before .before .fill-from .kept .1 .1 .1 .1 .0) returns)

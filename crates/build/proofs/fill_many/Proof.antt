@@ -1,7 +1,8 @@
 -- `build::fill_many` meets its contract: its index has 65,536 buckets, and no row. Assumes nothing.
-use mathlib.Core.Path.{refl}
+use Prim.Native.Nat.{ℕ}
+use mathlib.Core.Path.{refl, sym}
 use native.Mathlib.Omega.{arith}
-use borrow.Author.Needs.{needs}
+use lib.ListN.{length-replicate}
 use Rattle.explore.specs.Stages.{none-linked}
 use Rattle.build.proofs.fill_many.Statement.{statement}
 use Rattle.build.proofs.fill_many.Tie as tie
@@ -19,4 +20,5 @@ returns c = rw (c .before .before .before .before .before .before .before .going
 pub fill-many-spec : {M : Type 1} → statement M
 fill-many-spec =
     tie.close
-    (tie.spec (λ c. search needs) (λ c κs. search needs) fill-from-requires (λ c. search needs) (λ c. search needs) (λ c. search needs) returns)
+    (tie.spec (λ c. sym (length-replicate {A = ℕ} 131072 65535)) (λ c κs. tt) fill-from-requires (λ c. c .before .before .before .before .before .before .fill-from .kept .1 .1 .0) (λ c. c .before .before .before .before .before .before .fill-from .kept .1 .1 .1 .0)
+    (λ c. c .before .before .before .before .before .before .fill-from .kept .1 .1 .1 .1 .0) returns)

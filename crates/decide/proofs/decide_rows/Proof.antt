@@ -4,8 +4,8 @@ use mathlib.Core.Bool.{false}
 use borrow.Author.Needs.{needs}
 use Rattle.scope.specs.Numbering.{machineOf}
 use Rattle.decide.specs.Lends.{sums-asked}
-use Rattle.decide.specs.Explores.{Explores, decides-start, explores-on, spelt, decides}
-use Rattle.decide.specs.Handed.{asks-plan, asks-start, start-put, start-accepts, task, numbered, ready}
+use Rattle.decide.specs.Explores.{Explores, decides-start, explores-on, word-spelt, question-decided}
+use Rattle.decide.specs.Handed.{asks-plan, asks-start, start-put, start-accepts, task, handed-numbered, ready}
 use Rattle.decide.proofs.decide_rows.Statement.{statement}
 use Rattle.decide.proofs.decide_rows.Tie as tie
 
@@ -43,13 +43,13 @@ explored c =
     let ask = c .before .before .before .before .before .before .before .before .before .before .before .before .before .before .before .before .before .before .before .before .before .before .pre in
     let made = c .before .before .before .before .before .before .before .before .before .before .before .before .before .plan-of .ensures in
     let put = c .before .before .before .before .before .before .before .before .before .put-start .ensures in
-    explores-on ask (start-put ask made put) made (refused (c .before .before .before .before)) (numbered ask made put (c .number-rows .ensures))
+    explores-on ask (start-put ask made put) made (refused (c .before .before .before .before)) (handed-numbered ask made put (c .number-rows .ensures))
 
 answer-requires : tie.Need-answer-requires
-answer-requires c κs = spelt (c .before .before .before .before .before .before .before .before .before .before .before .before .before .before .before .before .before .before .before .before .before .before .before .before .before .before .before .pre) (explored (c .before .before .before .before .before))
+answer-requires c κs = word-spelt (c .before .before .before .before .before .before .before .before .before .before .before .before .before .before .before .before .before .before .before .before .before .before .before .before .before .before .before .pre) (explored (c .before .before .before .before .before))
 
 returns-2 : tie.Need-returns-2
-returns-2 c = decides (c .before .before .before .before .before .before .before .before .before .before .before .before .before .before .before .before .before .before .before .before .before .before .before .before .before .before .before .before .before .before .pre) (explored (c .before .before .before .before .before .before .before .before)) (c .before .before .answer .ensures)
+returns-2 c = question-decided (c .before .before .before .before .before .before .before .before .before .before .before .before .before .before .before .before .before .before .before .before .before .before .before .before .before .before .before .before .before .before .pre) (explored (c .before .before .before .before .before .before .before .before)) (c .before .before .answer .ensures)
 
 pub decide-rows-spec : {M : Type 1} → statement M
 decide-rows-spec =

@@ -1,5 +1,4 @@
 -- `explore::add_row` meets its contract: the row is stored and indexed, and the key is tested. Assumes nothing.
-use borrow.Author.Needs.{needs}
 use Rattle.explore.proofs.add_row.Statement.{statement}
 use Rattle.explore.proofs.add_row.Tie as tie
 
@@ -21,4 +20,6 @@ returns c = record {
 
 pub add-row-spec : {M : Type 1} → statement M
 add-row-spec =
-    tie.close (tie.spec add-requires put-path-requires (λ c κs. search needs) (λ c. search needs) (λ c. search needs) (λ c. search needs) returns)
+    tie.close
+    (tie.spec add-requires put-path-requires (λ c κs. tt) (λ c. c .before .before .before .before .before .before .before .before .add .kept .0) (λ c. c .before .before .before .put-path .kept .1 .0)
+    (λ c. c .before .before .before .before .before .before .before .before .add .kept .1 .1 .1 .0) returns)

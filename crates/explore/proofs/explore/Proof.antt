@@ -4,7 +4,7 @@ use mathlib.Core.Path.{_≡_, refl, sym, _∙_}
 use mathlib.Core.Bool.{true≢false}
 use native.Mathlib.Omega.{arith}
 use lib.ListN.{length, take}
-use Rattle.explore.specs.Machine.{machine, Runs, machine-runs}
+use Rattle.plan.specs.Machine.{machine, Runs, machine-runs}
 use Rattle.explore.specs.Standing.{Tried}
 use Rattle.explore.proofs.Trying.{letter-below}
 use Rattle.explore.proofs.Going.{Exploring, begins, stands, ends, goes-on, stops, start-stays, left, less-left}

@@ -1,12 +1,12 @@
 -- `explore::number_rows` meets its contract: few rows first, which are all, or give way to all where they are full. Assumes nothing.
 use Prim.Native.Nat.{ℕ}
-use mathlib.Core.Path.{refl, sym}
+use mathlib.Core.Path.{refl, sym, _∙_}
 use native.Mathlib.Nat.{le-refl}
 use native.Mathlib.Omega.{arith}
-use borrow.Author.Needs.{needs}
 use lib.ListN.{take}
-use Rattle.explore.specs.Machine.{machine, Runs, machine-runs}
-use Rattle.explore.specs.Standing.{Lent, Ended, withRows}
+use Rattle.plan.specs.Machine.{machine, Runs, machine-runs}
+use Rattle.plan.specs.Moves.{withRows}
+use Rattle.explore.specs.Standing.{Lent, ExploringEnded}
 use Rattle.explore.specs.Stages.{fewer-task, start-stands, more-stands, stopped-full, ended-after}
 use Rattle.explore.specs.Ends.{ended-numbered}
 use Rattle.explore.proofs.Going.{start-stays}
@@ -43,7 +43,7 @@ module _ (c : tie.After-explore-few) where
   few = c .before .before .before .before .least .result
 
   ended : let a = start .args in
-      Ended (machine (a .plan) (a .sums .now) (a .keys .now)) (withRows (a .plan) few) 1 (a .keys .now) (a .path .now) (c .explore-few .last .1 .1 .0) (c .explore-few .last .1 .1 .1 .0) (c .explore-few .result)
+      ExploringEnded (machine (a .plan) (a .sums .now) (a .keys .now)) (withRows (a .plan) few) 1 (a .keys .now) (a .path .now) (c .explore-few .last .1 .1 .0) (c .explore-few .last .1 .1 .1 .0) (c .explore-few .result)
   ended = rw (c .before .before .before .with-rows .ensures) at (c .explore-few .ensures)
 
   lent : Lent (start .args .plan) (c .explore-few .last .1 .1 .0) (c .explore-few .last .1 .1 .1 .0)
@@ -88,5 +88,7 @@ returns-2 c =
 pub number-rows-spec : {M : Type 1} → statement M
 number-rows-spec =
     tie.close
-    (tie.spec (λ c κs. search needs) (λ c κs. search needs) explore-few-requires (λ c κs. search needs) explore-many-requires (λ c κs. search needs)
-    (λ c. search needs) (λ c. search needs) returns (λ c κs. search needs) (λ c. search needs) (λ c. search needs) returns-2)
+    (tie.spec (λ c κs. tt) (λ c κs. tt) explore-few-requires (λ c κs. tt) explore-many-requires (λ c κs. tt)
+    (λ c. c .before .before .before .before .explore-many .kept .1 .1 .0 ∙ c .before .before .before .before .before .before .before .before .before .before .before .before .explore-few .kept .1 .1 .0)
+    (λ c. c .before .before .before .before .explore-many .kept .1 .1 .1 .0 ∙ c .before .before .before .before .before .before .before .before .before .before .before .before .explore-few .kept .1 .1 .1 .0)
+    returns (λ c κs. tt) (λ c. c .before .before .before .before .before .before .explore-few .kept .1 .1 .0) (λ c. c .before .before .before .before .before .before .explore-few .kept .1 .1 .1 .0) returns-2)

@@ -1,8 +1,8 @@
 -- `explore::resume` meets its contract: the index gets the rows that are there. Assumes nothing.
 use Prim.Native.Nat.{_*_, _≤_}
+use mathlib.Core.Path.{_∙_}
 use native.Mathlib.Nat.{mul-le-mul-right}
 use native.Mathlib.Omega.{arith}
-use borrow.Author.Needs.{needs}
 use Rattle.explore.proofs.resume.Statement.{statement}
 use Rattle.explore.proofs.resume.Tie as tie
 
@@ -32,4 +32,6 @@ explore-requires c κs =
 
 pub resume-spec : {M : Type 1} → statement M
 resume-spec =
-    tie.close (tie.spec insert-rows-requires explore-requires (λ c. search needs) (λ c. search needs) (λ c. search needs) (λ c. search needs))
+    tie.close
+    (tie.spec insert-rows-requires explore-requires (λ c. c .before .before .before .before .before .explore .kept .1 .1 .0) (λ c. c .before .before .before .before .before .explore .kept .1 .1 .1 .0)
+    (λ c. c .before .before .before .before .before .explore .kept .1 .1 .1 .1 .0 ∙ c .before .before .before .before .before .before .before .before .before .before .before .insert-rows .kept .1 .1 .0) (λ c. c .before .before .before .before .before .explore .ensures))

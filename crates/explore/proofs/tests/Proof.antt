@@ -1,5 +1,4 @@
 -- `explore::tests` meets its contract: by whether it is asked. Assumes nothing.
-use borrow.Author.Needs.{needs}
 use Rattle.explore.proofs.tests.Statement.{statement}
 use Rattle.explore.proofs.tests.Tie as tie
 
@@ -10,4 +9,4 @@ returns-2 : tie.Need-returns-2
 returns-2 c = rw (c .if1 .left)
 
 pub tests-spec : {M : Type 1} → statement M
-tests-spec = tie.close (tie.spec (λ c κs. search needs) returns returns-2)
+tests-spec = tie.close (tie.spec (λ c κs. tt) returns returns-2)

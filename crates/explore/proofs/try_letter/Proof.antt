@@ -1,16 +1,15 @@
 -- `explore::try_letter` meets its contract: each way out is one of the laws of Trying, with what the calls gave. Assumes nothing.
-use Prim.Native.Nat.{_<_}
+use Prim.Native.Nat.{_+_, _≤_, _<_}
 use native.Mathlib.Omega.{arith}
-use borrow.Author.Needs.{needs}
 use mathlib.Core.List.{List}
 use lib.ListN.{take}
 use lib.IntN.{ℤ}
 use mathlib.Core.Path.{refl}
 use Rattle.step.specs.Cells.{stepCells}
 use Rattle.index.specs.Index.{Finds}
-use Rattle.explore.specs.Machine.{machine, Runs, machine-runs}
-use Rattle.explore.specs.Standing.{RowAdded}
-use Rattle.explore.proofs.Trying.{letter-below, stepping, fits, tried-old, tried-full, tried-found, tried-new, front-stays}
+use Rattle.plan.specs.Machine.{machine, Runs, machine-runs}
+use Rattle.explore.specs.Standing.{FrontStays, RowAdded}
+use Rattle.explore.proofs.Trying.{letter-below, stepping, row-fits-in, tried-old, tried-full, tried-found, tried-new, front-stays}
 use Rattle.explore.proofs.try_letter.Statement.{statement}
 use Rattle.explore.proofs.try_letter.Tie as tie
 
@@ -62,7 +61,7 @@ add-row-requires c κs =
     let s = c .before .before .before .before .before .before .before .before .before .before .before .before .before .before .before .before in
     let p = s .pre in
     let free : s .args .s .count < s .args .plan .rows = omega (arith, p .1 .0 .rows-there .count-ok, c .before .before .before .if2 .left) in
-    (p .1 .1 .0, rw (c .before .before .before .before .before .before .before .before .before .before .before .before .step-row .ensures) (fits (start-runs s) (p .0) (p .1 .0) (p .1 .1 .1 .below) (p .1 .1 .1) free (p .1 .1 .0)))
+    (p .1 .1 .0, rw (c .before .before .before .before .before .before .before .before .before .before .before .before .step-row .ensures) (row-fits-in (start-runs s) (p .0) (p .1 .0) (p .1 .1 .1 .below) (p .1 .1 .1) free (p .1 .1 .0)))
 
 module _ (c : tie.After-add-row) where
   abbrev start : tie.Start
@@ -77,33 +76,40 @@ module _ (c : tie.After-add-row) where
   added : let a = start .args in RowAdded (a .plan) (a .s) key (a .keys .now) (a .path .now) (c .add-row .last .1 .0) (c .add-row .last .1 .1 .0) (c .add-row .last .1 .1 .1 .0) (c .add-row .result)
   added = rw (c .before .before .before .before .before .before .before .before .before .before .before .before .before .step-row .ensures) at (c .add-row .ensures)
 
+  -- it is the next number, and the rows that were there are as they were
+  one-more : start .args .s .count + 1 ≤ 65535
+  one-more = omega (arith, free, start .pre .1 .0 .rows-there .lent .few-rows)
+
+  front : let a = start .args in FrontStays (a .plan) (a .s) (a .keys .now) (c .add-row .last .1 .0)
+  front = let p = start .pre in front-stays (start-runs start) (p .0) (p .1 .0) (p .1 .1 .1 .below) (p .1 .1 .1) (finds (c .before .before .before .before .before .before .before .before .before)) (c .before .before .before .before .before .before .before .if1 .left) free added
+
 returns-3 : tie.Need-returns-3
 returns-3 c =
     let w = c .before .before .before .before .before .before .before .before in
-    let s = start w in
-    let p = s .pre in (
-      tried-found (start-runs s) (p .0) (p .1 .0) (p .1 .1 .1 .below) (p .1 .1 .1) (finds (w .before .before .before .before .before .before .before .before .before)) (c .before .before .before .before .before .before .before .before .before .before .before .before .before .before .before .if1 .left) (free w) (added w) (c .before .before .if3 .taken) (c .ending2 .ensures),
-      front-stays (start-runs s) (p .0) (p .1 .0) (p .1 .1 .1 .below) (p .1 .1 .1) (finds (w .before .before .before .before .before .before .before .before .before)) (c .before .before .before .before .before .before .before .before .before .before .before .before .before .before .before .if1 .left) (free w) (added w),
-    )
+    let p = start w .pre in
+    (tried-found (start-runs (start w)) (p .0) (p .1 .0) (p .1 .1 .1 .below) (p .1 .1 .1) (finds (w .before .before .before .before .before .before .before .before .before)) (w .before .before .before .before .before .before .before .if1 .left) (free w) (added w) (c .before .before .if3 .taken) (c .ending2 .ensures), front w)
+
+after-requires-2 : tie.Need-after-requires-2
+after-requires-2 c κs = let s = start (c .before .before .before .before .before .before .before) in (letter-ok s, s .pre .0 .few-letters, s .pre .0 .bits .below, few-rows s)
 
 returns-4 : tie.Need-returns-4
 returns-4 c =
     let w = c .before .before .before .before .before .before .before .before in
-    let s = start w in
-    let p = s .pre in
+    let p = start w .pre in
+    let l = p .1 .0 .rows-there .lent in
     let k = w .add-row .kept in (
-      tried-new (start-runs s) (p .0) (p .1 .0) (p .1 .1 .1 .below) (p .1 .1 .1) (finds (w .before .before .before .before .before .before .before .before .before)) (c .before .before .before .before .before .before .before .before .before .before .before .before .before .before .before .if1 .left) (free w) (added w)
-          (record { few-rows = p .1 .0 .rows-there .lent .few-rows; keys-room = omega (arith, k .1 .0, p .1 .0 .rows-there .lent .keys-room); path-room = omega (arith, k .1 .1 .0, p .1 .0 .rows-there .lent .path-room) })
+      tried-new (start-runs (start w)) (p .0) (p .1 .0) (p .1 .1 .1 .below) (p .1 .1 .1) (finds (w .before .before .before .before .before .before .before .before .before)) (w .before .before .before .before .before .before .before .if1 .left) (free w) (added w)
+          (record { few-rows = l .few-rows; keys-room = omega (arith, k .1 .0, l .keys-room); path-room = omega (arith, k .1 .1 .0, l .path-room) })
           (record { indexed = added w .indexed; room = omega (arith, k .1 .1 .1 .0, p .1 .1 .0 .room) })
           (c .before .before .if3 .left) (c .after2 .ensures),
-      front-stays (start-runs s) (p .0) (p .1 .0) (p .1 .1 .1 .below) (p .1 .1 .1) (finds (w .before .before .before .before .before .before .before .before .before)) (c .before .before .before .before .before .before .before .before .before .before .before .before .before .before .before .if1 .left) (free w) (added w),
+      front w,
     )
 
 pub try-letter-spec : {M : Type 1} → statement M
 try-letter-spec =
     tie.close
-    (tie.spec step-row-requires find-requires after-requires (λ c. search needs) (λ c. search needs) returns
-    (λ c κs. search needs) (λ c. search needs) (λ c. search needs) returns-2 add-row-requires (λ c. search needs)
-    (λ c κs. search needs) (λ c. search needs) (λ c. search needs) (λ c. search needs) returns-3
-    (λ c. search needs) (λ c κs. let s = c .before .before .before .before .before .before .before .before .before .before .before .before .before .before .before .before .before .before .before .before .before .before .before .before in (letter-ok s, s .pre .0 .few-letters, s .pre .0 .bits .below, few-rows s))
-    (λ c. search needs) (λ c. search needs) (λ c. search needs) returns-4)
+    (tie.spec step-row-requires find-requires after-requires (λ c. refl) (λ c. refl) returns
+    (λ c κs. tt) (λ c. refl) (λ c. refl) returns-2 add-row-requires (λ c. record { fits = omega (arith, one-more (c .before .before .before .before .before .before .before)) })
+    (λ c κs. tt) (λ c. c .before .before .before .before .before .before .before .before .add-row .kept .1 .0) (λ c. c .before .before .before .before .before .before .before .before .add-row .kept .1 .1 .0) (λ c. c .before .before .before .before .before .before .before .before .add-row .kept .1 .1 .1 .0) returns-3
+    (λ c. record { fits = omega (arith, one-more (c .before .before .before .before .before .before .before)) }) after-requires-2
+    (λ c. c .before .before .before .before .before .before .before .before .add-row .kept .1 .0) (λ c. c .before .before .before .before .before .before .before .before .add-row .kept .1 .1 .0) (λ c. c .before .before .before .before .before .before .before .before .add-row .kept .1 .1 .1 .0) returns-4)

@@ -3,7 +3,7 @@
 use mathlib.Core.Path.{_≡_, refl, _∙_}
 use native.Mathlib.Omega.{arith}
 use lib.ListN.{length, take}
-use Rattle.explore.specs.Machine.{machine, Runs, machine-runs}
+use Rattle.plan.specs.Machine.{machine, Runs, machine-runs}
 use Rattle.explore.specs.Standing.{Tried}
 use Rattle.explore.proofs.Trying.{letter-below, row-within}
 use Rattle.explore.proofs.Going.{stands, InRow, enters, row-of, leaves, again, ends-there, start-stays, left, less-left}

@@ -3,7 +3,7 @@ use native.Mathlib.Omega.{arith}
 use borrow.Author.Needs.{needs}
 use lib.ListN.{getD}
 use lib.IntN.{pos}
-use Rattle.theory.specs.Bits.{read}
+use Rattle.theory.specs.Numbers.Bits.{read}
 use Rattle.index.specs.Hash.{hashOf}
 use Rattle.index.proofs.hash.Statement.{statement}
 use Rattle.index.proofs.hash.Tie as tie

@@ -11,7 +11,7 @@ use borrow.Author.Needs.{needs}
 use borrow.Author.Count.{below-more}
 use lib.ListN.{getD}
 use lib.IntN.{ℤ, pos}
-use Rattle.theory.specs.Bits.{same-bits}
+use Rattle.theory.specs.Numbers.Bits.{same-bits}
 use Rattle.index.specs.Rows.{row-is, row-cells}
 use Rattle.index.proofs.same_row.Statement.{statement}
 use Rattle.index.proofs.same_row.Tie as tie
@@ -41,9 +41,9 @@ loop-holds : tie.Need-loop-holds Inv-loop μ-loop
 loop-holds c =
     let narrow = c .before .pre .0 in
     ⊎-elim
-    (λ four.
-    let same = rw (four .2 .left) at (four .1 .ensures) in
-    record { few = omega (arith, four .3); left = omega (arith, four .3, narrow); low = omega arith; agree = λ k h l. same k (omega (arith, four .3)) })
+    (λ four-agree.
+    let same = rw (four-agree .2 .left) at (four-agree .1 .ensures) in
+    record { few = omega (arith, four-agree .3); left = omega (arith, four-agree .3, narrow); low = omega arith; agree = λ k h l. same k (omega (arith, four-agree .3)) })
     (λ none.
     record {
       few = omega (arith, none .1);

@@ -7,7 +7,7 @@ use mir.Val.{SFits}
 use mir.ValLaws.{toZ-ofZ}
 use borrow.Author.Needs.{needs}
 use Rattle.scope.specs.States.{compares}
-use Rattle.judge.specs.Atoms.{kindOfCode}
+use Rattle.theory.specs.Wire.Records.{kindOfCode}
 use Rattle.judge.proofs.holds.Statement.{statement}
 use Rattle.judge.proofs.holds.Tie as tie
 

@@ -2,7 +2,7 @@
 use mathlib.Core.Path.{sym, _∙_}
 use mathlib.Core.Bool.{true, false}
 use borrow.Author.Needs.{needs}
-use Rattle.theory.specs.Tests.{failed, passed}
+use Rattle.theory.specs.Numbers.Tests.{failed, passed}
 use Rattle.judge.proofs.Judging.{judged-miscounted, judged-large, judged-truth, judgeable}
 use Rattle.judge.proofs.judge_question.Statement.{statement}
 use Rattle.judge.proofs.judge_question.Tie as tie

@@ -8,7 +8,7 @@ use mir.Val.{SFits, toZ}
 use mir.ValLaws.{toZ-ofZ, toZ-pos}
 use borrow.Author.Needs.{needs}
 use Rattle.scope.specs.Sizes.{mostCoefficient, mostValue}
-use Rattle.theory.specs.Magnitude.{fits-abs}
+use Rattle.theory.specs.Numbers.Magnitude.{fits-abs}
 use Rattle.judge.proofs.Products.{product-small}
 use Rattle.judge.proofs.product.Statement.{statement}
 use Rattle.judge.proofs.product.Tie as tie

@@ -3,7 +3,7 @@ use mathlib.Core.Path.{sym, ap, _∙_, subst}
 use borrow.Author.Needs.{needs}
 use Rattle.scope.specs.declared.Question.{Question}
 use Rattle.scope.specs.States.{satisfied}
-use Rattle.judge.specs.Atoms.{asked, Judgeable}
+use Rattle.judge.specs.Atoms.{questionFor, Judgeable}
 use Rattle.judge.proofs.Noting.{asked-is, worths-satisfy}
 use Rattle.judge.proofs.satisfies.Statement.{statement}
 use Rattle.judge.proofs.satisfies.Tie as tie
@@ -21,7 +21,7 @@ returns c =
     let values = s .args .values .now in
     c .truth-at .ensures ∙
     c .before .truths-of .ensures .says (w .worths-of .result) (w .worths-of .ensures .whole) ∙
-    worths-satisfy (asked (q .codes) (q .coefficients) (q .constants) values) values (w .worths-of .result) (w .worths-of .ensures) ∙
+    worths-satisfy (questionFor (q .codes) (q .coefficients) (q .constants) values) values (w .worths-of .result) (w .worths-of .ensures) ∙
     ap (λ (p : Question). satisfied p values) (asked-is q values (s .pre .count))
 
 pub satisfies-spec : {M : Type 1} → statement M

@@ -2,7 +2,7 @@
 use mir.Syntax.{w64}
 use mir.ValLaws.{toZ-ofZ}
 use borrow.Author.Tests.{eq-eqb, ne-eqb}
-use Rattle.theory.specs.Bits.{test-bits, fits-64}
+use Rattle.theory.specs.Numbers.Bits.{test-bits, fits-64}
 use Rattle.judge.proofs.stands.Statement.{statement}
 use Rattle.judge.proofs.stands.Tie as tie
 

@@ -9,13 +9,13 @@ use mir.Val.{SFits, toZ}
 use mir.ValLaws.{toZ-ofZ}
 use borrow.Author.Needs.{needs}
 use Rattle.scope.specs.States.{dot}
-use Rattle.judge.specs.Sums.{rowAt}
+use Rattle.judge.specs.Sums.{coefficientsFrom}
 use Rattle.judge.proofs.Products.{sum-fits, sum-more, sum-none, coefficient-fits}
 use Rattle.judge.proofs.sum_at.Statement.{statement}
 use Rattle.judge.proofs.sum_at.Tie as tie
 
 abbrev Inv-loop : tie.InvT-loop
-Inv-loop coefficients at values s₀ j₀ s j = (j ≤ length values) × (toZ w64 s ≡ dot (drop j (rowAt coefficients at values)) (drop j values))
+Inv-loop coefficients at values s₀ j₀ s j = (j ≤ length values) × (toZ w64 s ≡ dot (drop j (coefficientsFrom coefficients at values)) (drop j values))
 
 abbrev μ-loop : tie.MeasureT-loop
 μ-loop coefficients at values s₀ j₀ s j = j
@@ -33,13 +33,13 @@ module _ (c : tie.After-product Inv-loop μ-loop) where
   sum-is :
       c .product .result +ℤ toZ w64 (c .before .before .before .before .loop .s) ≡
       dot
-      (drop (c .before .before .before .before .loop .j - 1) (rowAt (c .before .before .before .before .before .before .args .coefficients .now) (c .before .before .before .before .before .before .args .at) (c .before .before .before .before .before .before .args .values .now)))
+      (drop (c .before .before .before .before .loop .j - 1) (coefficientsFrom (c .before .before .before .before .before .before .args .coefficients .now) (c .before .before .before .before .before .before .args .at) (c .before .before .before .before .before .before .args .values .now)))
       (drop (c .before .before .before .before .loop .j - 1) (c .before .before .before .before .before .before .args .values .now))
   sum-is =
       let l = c .before .before .before .before in
       let a = l .before .before .args in
       let p = l .before .before .pre in
-      let row = rowAt (a .coefficients .now) (a .at) (a .values .now) in
+      let row = coefficientsFrom (a .coefficients .now) (a .at) (a .values .now) in
       let j = l .loop .j - 1 in
       let n : j < length (a .values .now) = omega arith in
       let m : l .loop .j ≡ suc j = omega arith in
@@ -63,7 +63,7 @@ returns c =
     let l = c .before in
     let a = l .before .before .args in
     let m : l .loop .j ≡ 0 = omega arith in
-    l .loop .inv .1 ∙ ap (λ (k : ℕ). dot (drop k (rowAt (a .coefficients .now) (a .at) (a .values .now))) (drop k (a .values .now))) m
+    l .loop .inv .1 ∙ ap (λ (k : ℕ). dot (drop k (coefficientsFrom (a .coefficients .now) (a .at) (a .values .now))) (drop k (a .values .now))) m
 
 pub sum-at-spec : {M : Type 1} → statement M
 sum-at-spec =

@@ -8,7 +8,7 @@ use borrow.Author.Needs.{needs}
 use borrow.Author.Tests.{le-leb, lt-leb}
 use Rattle.scope.specs.Whole.{all}
 use Rattle.scope.specs.Sizes.{mostValue}
-use Rattle.theory.specs.Tests.{all-more, all-fails, all-done}
+use Rattle.theory.specs.Numbers.Tests.{all-more, all-fails, all-done}
 use Rattle.judge.proofs.values_fit.Statement.{statement}
 use Rattle.judge.proofs.values_fit.Tie as tie
 

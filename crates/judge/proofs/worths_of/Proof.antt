@@ -4,13 +4,13 @@ use mathlib.Core.List.{map}
 use lib.ListN.{length, drop}
 use borrow.Author.Needs.{needs}
 use Rattle.scope.specs.Question.{nodeOf, kindsOf}
-use Rattle.judge.specs.Atoms.{asked}
-use Rattle.judge.proofs.Noting.{Noted, noted-start, noted-more, noted-all, atom-within, atom-summable, fewer-left}
+use Rattle.judge.specs.Atoms.{questionFor}
+use Rattle.judge.proofs.Noting.{WorthsNoted, noted-start, noted-more, noted-all, atom-within, atom-summable, fewer-left}
 use Rattle.judge.proofs.worths_of.Statement.{statement}
 use Rattle.judge.proofs.worths_of.Tie as tie
 
 abbrev Inv-loop : tie.InvT-loop
-Inv-loop codes coefficients constants values worths₀ atom₀ at₀ worths atom at = Noted (asked codes coefficients constants values) values worths atom at
+Inv-loop codes coefficients constants values worths₀ atom₀ at₀ worths atom at = WorthsNoted (questionFor codes coefficients constants values) values worths atom at
 
 abbrev μ-loop : tie.MeasureT-loop
 μ-loop codes coefficients constants values worths₀ atom₀ at₀ worths atom at = length (kindsOf (drop at (map nodeOf codes)))

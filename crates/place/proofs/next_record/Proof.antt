@@ -44,16 +44,16 @@ use denote.Triple.Clauses.{ensured, lasts}
 use Rattle.scope.specs.declared.RecordAnswer.{RecordAnswer}
 use Rattle.scope.proofs.RecordAnswer as S
 use Rattle.scope.proofs.RecordAnswer.Laws as S′
-use Rattle.wire.proofs.record_at as step
-use Rattle.wire.proofs.record_at.Symbol as step-def
-use Rattle.wire.proofs.record_at.Symbol.{name as #wire·record-at}
-use Rattle.wire.proofs.record_at.Met as step-thm
-use Rattle.wire.specs.Steps as bodies
-use Rattle.place.specs.Steps.{movedBy, startBy, lenBy, Stepped}
+use Rattle.records.proofs.record_at as step
+use Rattle.records.proofs.record_at.Symbol as step-def
+use Rattle.records.proofs.record_at.Symbol.{name as #records·record-at}
+use Rattle.records.proofs.record_at.Met as step-thm
+use Rattle.records.specs.Bodies as bodies
+use Rattle.place.specs.Steps.{movedBy, startBy, lenBy, PlaceStepped}
 use Rattle.place.specs.Laws.{within}
 use Rattle.place.specs.declared.Place.{Place}
 use Rattle.place.specs.declared.Step.{Step}
-use Rattle.place.proofs.Places.{B, mach, v, D, L, vd, Own, twice, bytes-out, found, RecordAt, to, said, apart}
+use Rattle.place.proofs.Places.{B, mach, v, placeType, L, vd, Own, twice, bytes-out, recordHere, RecordAt, to, said, apart}
 use Rattle.place.proofs.Place as T
 use Rattle.place.proofs.Place.Laws as T′
 use Rattle.place.proofs.Step as K
@@ -141,13 +141,13 @@ module _ {M : Type 1} (𝓤 : URA M) (H : Heap 𝓤) (A : Atoms 𝓤) (W : Given
   KL = K′.the-laws (namedLft 1 0 tt (κ, tt))
 
   moved-is : Is (B (κ, tt)) d (mach d ∷ []) → (k : ℕ) → k < 2 ^ 64 → Is (B (κ, tt)) (with-at k) (mach (with-at k) ∷ [])
-  moved-is p k ok = LL.owes (D κ) (L κ) (with-at k) (LL.owed (D κ) (L κ) d _ p .0, ((refl, ok), tt))
+  moved-is p k ok = LL.owes (placeType κ) (L κ) (with-at k) (LL.owed (placeType κ) (L κ) d _ p .0, ((refl, ok), tt))
 
   given-is : Is (B (κ, tt)) d (mach d ∷ []) → (r : RecordAnswer) (t : RefT (List ℕ)) (k : ℕ) → Is S.the-row r (av r ∷ []) → Is (ShrSlice (named 0) κ u8) t (bv t ∷ []) → k < 2 ^ 64
       → Is (K.the-row (namedLft 1 0 tt (κ, tt))) (given-back r t k) (LL.vals KD KL (given-back r t k))
   given-is p r t k is ts ok = LL.owes KD KL (given-back r t k) (moved-is p k ok, (is, (ts, tt)))
 
-  stepped : (r : RecordAnswer) (t : RefT (List ℕ)) (k : ℕ) → r ≡ found d → Body r t → k ≡ movedBy r (d .at) → Stepped d (given-back r t k)
+  stepped : (r : RecordAnswer) (t : RefT (List ℕ)) (k : ℕ) → r ≡ recordHere d → Body r t → k ≡ movedBy r (d .at) → PlaceStepped d (given-back r t k)
   stepped r t k e eb ek = record {
     sameBytes = refl;
     moved = ek ∙ ap (λ (x : RecordAnswer). movedBy x (d .at)) e;
@@ -155,18 +155,18 @@ module _ {M : Type 1} (𝓤 : URA M) (H : Heap 𝓤) (A : Atoms 𝓤) (W : Given
     handed = bodies.body-there (d .bytes) _ _ t (within (now (d .bytes)) (d .at)) (subst (λ (x : RecordAnswer). Body x t) e eb);
   }
 
-  exits : (r : RecordAnswer) (t : RefT (List ℕ)) (k : ℕ) → Is S.the-row r (av r ∷ []) → k < 2 ^ 64 → Stepped d (given-back r t k)
+  exits : (r : RecordAnswer) (t : RefT (List ℕ)) (k : ℕ) → Is S.the-row r (av r ∷ []) → k < 2 ^ 64 → PlaceStepped d (given-back r t k)
       → ent 𝓤 (⋆ 𝓤 H A (‵ (OwnBody t (bv t)) ∷ (‵ (flft κ q) ⊛ ‵ ftrue) ∷ ‵ (Own κ d) ∷ [])) (Post (LL.val KD KL (given-back r t k)))
   exits r t k is ok e =
       qed W (‵ (OwnBody t (bv t)) ∷ (‵ (flft κ q) ⊛ ‵ ftrue) ∷ ‵ (Own κ d) ∷ []) ∵
       suffices ! _ (ends-at 𝓤 H A next.ended stayed (next.clauses 𝓤 H A mem run) W (((κ, tt), (q, tt), tt, (d, tt), (mach d ∷ [], tt)), tt) (LL.val KD KL (given-back r t k)) (given-back r t k) (tt, tt) (tt, tt)) $ says ! e $
       move ! (1 ∷ []) $ frame ! $ move ! (1 ∷ []) $ use1 W (‵ (Own κ d) ⊛ ‵ (Own κ d)) (twice 𝓤 H A W κ d) $ split ! $ nothing ! $ move ! (1 ∷ 0 ∷ []) $ fjoin ! $ frame ! $
       -- [what the place owns; what the body owns]: the number's facts take the place of at's
-      owned ! usize (Is usize) (uint-makes 𝓤 H A W w64) k _ (refl, ok) $ move ! (1 ∷ 0 ∷ []) $ use2 W (‵ (Own κ (with-at k))) (own-put 𝓤 H A W (D κ) (L κ) 1 (vd κ d) k (mach d)) $
+      owned ! usize (Is usize) (uint-makes 𝓤 H A W w64) k _ (refl, ok) $ move ! (1 ∷ 0 ∷ []) $ use2 W (‵ (Own κ (with-at k))) (own-put 𝓤 H A W (placeType κ) (L κ) 1 (vd κ d) k (mach d)) $
       nothing ! $ move ! (2 ∷ 0 ∷ []) $ fjoin ! $ owned ! S.the-row (Is S.the-row) (EL.makes S.the-type S′.the-plain 𝓤 H A) r _ is $ fjoin ! $ move ! (1 ∷ 0 ∷ []) $ fjoin ! $
       by ! (own-shut 𝓤 H A W KD KL (with-at k, (r, (t, tt))))
 
-  module _ (C : Calls 𝓤 H) (Λ : Loops 𝓤 H) (fm : FmC 𝓤 H (W .laws) C) (known : Triple 𝓤 (C #wire·record-at) (RecordAt 𝓤 H A mem run)) (known-body : Triple 𝓤 (C #place·body-of) (BodyOf 𝓤 H A mem run)) (known-moved : Triple 𝓤 (C #place·moved) (Moved 𝓤 H A mem run)) where
+  module _ (C : Calls 𝓤 H) (Λ : Loops 𝓤 H) (fm : FmC 𝓤 H (W .laws) C) (known : Triple 𝓤 (C #records·record-at) (RecordAt 𝓤 H A mem run)) (known-body : Triple 𝓤 (C #place·body-of) (BodyOf 𝓤 H A mem run)) (known-moved : Triple 𝓤 (C #place·moved) (Moved 𝓤 H A mem run)) where
     walk : Is (B (κ, tt)) d (mach d ∷ []) → Holds (hasTy (T′.mir (named 0)) (mach d)) × WT (mach d) → ent 𝓤 (onEntry 𝓤 H A next.signature (κ, tt) (q, tt) (d, tt) (mach d ∷ [], tt)) (WpFn 𝓤 H C Λ code.function (mach d ∷ []) Post)
     walk p wt =
         qed W (raw (onEntry 𝓤 H A next.signature (κ, tt) (q, tt) (d, tt) (mach d ∷ [], tt)) ∷ []) ∵ enter ! C Λ code.function (mach d ∷ []) _ $
@@ -178,7 +178,7 @@ module _ {M : Type 1} (𝓤 : URA M) (H : Heap 𝓤) (A : Atoms 𝓤) (W : Given
         -- [what `record_at` asks; what the place owns; _10 at 2; …; _6 at 10; …; _5 at 12; …]
         calls-at ! fm (RecordAt 𝓤 H A mem run) known (to 𝓤 H A mem run κ q d) (and-then ! (load ! (from ! (stop !)) (look ! 12 refl)) (and-then ! (load ! (from ! (stop !)) (look ! 10 refl)) (no-more !))) (λ u.
         use1 W (later (some (λ (r : RecordAnswer). ((‵ (flft κ q) ⊛ ‵ ftrue) ⊛ ‵ (S.the-row .own r (u ∷ []))) ⊛ raw (ensured 𝓤 H A step.ended (step.clauses 𝓤 H A mem run) (κ, tt) (d .bytes, (d .at, tt)) tt r)))) (id⊢ 𝓤 _) $ await ! tt $ pick ! (λ r.
-        split ! $ move ! (1 ∷ []) $ use1 W (raw (fact 𝓤 (r ≡ found d))) (said 𝓤 H A mem run κ q d r) $ heard ! (r ≡ found d) (λ e. split ! $ move ! (1 ∷ []) $
+        split ! $ move ! (1 ∷ []) $ use1 W (raw (fact 𝓤 (r ≡ recordHere d))) (said 𝓤 H A mem run κ q d r) $ heard ! (r ≡ recordHere d) (λ e. split ! $ move ! (1 ∷ []) $
         -- [the answer; the token; what the place owns; _10 at 3; …; room for _2 at 19; …]
         peeks ! S.the-row (Is S.the-row) (shows 𝓤 H A S.the-row) r (u ∷ []) (λ is₀.
         let spells : u ∷ [] ≡ av r ∷ [] = EL.tells S.the-type S′.the-laws r (u ∷ []) is₀ in
@@ -215,13 +215,13 @@ module _ {M : Type 1} (𝓤 : URA M) (H : Heap 𝓤) (A : Atoms 𝓤) (W : Given
         drop ! $ drop ! $ by ! (exits r t k is (ks .1) (stepped r t k e eb ek)))))))))))))))))))))))))
 
 module _ {M : Type 1} (𝓤 : URA M) (H : Heap 𝓤) (A : Atoms 𝓤) (W : Given 𝓤 H A) (mem : Memory → SProp 𝓤) (run : Routine → Fun 𝓤) where
-  next-record-walks : (C : Calls 𝓤 H) (Λ : Loops 𝓤 H) → FmC 𝓤 H (W .laws) C → Triple 𝓤 (C #wire·record-at) (RecordAt 𝓤 H A mem run) → Triple 𝓤 (C #place·body-of) (BodyOf 𝓤 H A mem run) → Triple 𝓤 (C #place·moved) (Moved 𝓤 H A mem run)
+  next-record-walks : (C : Calls 𝓤 H) (Λ : Loops 𝓤 H) → FmC 𝓤 H (W .laws) C → Triple 𝓤 (C #records·record-at) (RecordAt 𝓤 H A mem run) → Triple 𝓤 (C #place·body-of) (BodyOf 𝓤 H A mem run) → Triple 𝓤 (C #place·moved) (Moved 𝓤 H A mem run)
       → Walks 𝓤 H A next.ended stayed (WpFn 𝓤 H C Λ code.function) (next.clauses 𝓤 H A mem run)
   next-record-walks C Λ fm known known-body known-moved = walked 𝓤 H A next.ended stayed (next.clauses 𝓤 H A mem run) (WpFn 𝓤 H C Λ code.function) (λ κs. (LL.vals (T.the-type (namedLft 1 0 tt κs)) (T′.the-laws (namedLft 1 0 tt κs)), tt)) (λ κs. (LL.tells (T.the-type (namedLft 1 0 tt κs)) (T′.the-laws (namedLft 1 0 tt κs)), tt))
       (λ κs qs bounds a g are. via 𝓤 _ (fst∗ 𝓤 _ (emp 𝓤)) (walk 𝓤 H A W mem run (κs .0) (qs .0) (a .0) C Λ fm known known-body known-moved (are .0) (LL.lawful (T.the-type (namedLft 1 0 tt κs)) (T′.the-laws (namedLft 1 0 tt κs)) 𝓤 H A W .typed (a .0) _ (are .0) .0)))
 
 next-record-meets : {M : Type 1} (𝓤 : URA M) (H : Heap 𝓤) (A : Atoms 𝓤) (W : Given 𝓤 H A) (mem : Memory → SProp 𝓤) (run : Routine → Fun 𝓤) (𝓣 : Tables 𝓤 H)
-    → Triple 𝓤 (𝓣 .C #wire·record-at) (RecordAt 𝓤 H A mem run) → Triple 𝓤 (𝓣 .C #place·body-of) (BodyOf 𝓤 H A mem run) → Triple 𝓤 (𝓣 .C #place·moved) (Moved 𝓤 H A mem run)
+    → Triple 𝓤 (𝓣 .C #records·record-at) (RecordAt 𝓤 H A mem run) → Triple 𝓤 (𝓣 .C #place·body-of) (BodyOf 𝓤 H A mem run) → Triple 𝓤 (𝓣 .C #place·moved) (Moved 𝓤 H A mem run)
     → Meets 𝓤 H A next.signature (WpFn 𝓤 H (𝓣 .C) (𝓣 .Λ) code.function) (next.spec 𝓤 H A mem run)
 next-record-meets 𝓤 H A W mem run 𝓣 known-step known-body known-moved = walk-meets 𝓤 H A next.ended stayed W (goes-none 𝓤 H A W 1 B yes (λ κs x f. refl), tt) (next.clauses 𝓤 H A mem run) (WpFn 𝓤 H (𝓣 .C) (𝓣 .Λ) code.function) (WpFn-mono 𝓤 H (W .laws) 𝓣 code.function)
     (next-record-walks 𝓤 H A W mem run (𝓣 .C) (𝓣 .Λ) (fmOf 𝓤 H (W .laws) 𝓣) known-step known-body known-moved)
@@ -232,6 +232,6 @@ next-record-spec 𝓤 H 𝓜 𝓖 𝓡 =
     entered 𝓤 H (tripleOf 𝓤 H (𝓖 .A) next.signature (next.spec 𝓤 H (𝓖 .A) (𝓜 .mem) (𝓡 .run)))
     (tables 𝓤 H 𝓜 𝓡 code.env .C) (tables 𝓤 H 𝓜 𝓡 code.env .Λ) #place·next-record code.function (code.unfolded 𝓤 H 𝓜 𝓡)
     (next-record-meets 𝓤 H (𝓖 .A) (givenOf 𝓤 H 𝓜 𝓖) (𝓜 .mem) (𝓡 .run) (tablesOf 𝓤 H 𝓜 (tables 𝓤 H 𝓜 𝓡 code.env))
-    (cited 𝓤 H (RecordAt 𝓤 H (𝓖 .A) (𝓜 .mem) (𝓡 .run)) 𝓜 𝓡 code.env #wire·record-at step-def.routine code.calls-wire·record-at (step-thm.met 𝓤 H 𝓜 𝓖 𝓡))
+    (cited 𝓤 H (RecordAt 𝓤 H (𝓖 .A) (𝓜 .mem) (𝓡 .run)) 𝓜 𝓡 code.env #records·record-at step-def.routine code.calls-records·record-at (step-thm.met 𝓤 H 𝓜 𝓖 𝓡))
     (cited 𝓤 H (BodyOf 𝓤 H (𝓖 .A) (𝓜 .mem) (𝓡 .run)) 𝓜 𝓡 code.env #place·body-of part-def.routine code.calls-place·body-of (part-thm.met 𝓤 H 𝓜 𝓖 𝓡))
     (cited 𝓤 H (Moved 𝓤 H (𝓖 .A) (𝓜 .mem) (𝓡 .run)) 𝓜 𝓡 code.env #place·moved moved-def.routine code.calls-place·moved (moved-thm.met 𝓤 H 𝓜 𝓖 𝓡)))

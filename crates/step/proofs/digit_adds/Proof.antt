@@ -5,7 +5,7 @@ use native.Mathlib.Omega.{arith}
 use borrow.Author.Needs.{needs}
 use lib.ListN.{getD}
 use lib.IntN.{pos}
-use Rattle.theory.specs.Bits.{read}
+use Rattle.theory.specs.Numbers.Bits.{read}
 use Rattle.step.specs.Cells.{digitAdds}
 use Rattle.step.proofs.Doubling.{adds-none, adds-next}
 use Rattle.step.proofs.digit_adds.Statement.{statement}

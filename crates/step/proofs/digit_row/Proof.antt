@@ -7,14 +7,14 @@ use lib.ListN.{getD}
 use lib.IntN.{pos}
 use mir.ValLaws.{toZ-ofZ}
 use mir.Syntax.{w32}
-use Rattle.theory.specs.Bits.{read}
-use Rattle.step.specs.Cells.{Added}
+use Rattle.theory.specs.Numbers.Bits.{read}
+use Rattle.step.specs.Cells.{SumsAdded}
 use Rattle.step.proofs.Doubling.{added-none, next-fits, added-next}
 use Rattle.step.proofs.digit_row.Statement.{statement}
 use Rattle.step.proofs.digit_row.Tie as tie
 
 abbrev Inv-loop : tie.InvT-loop
-Inv-loop sums₀ from to adds i₀ sums i = (i ≤ 8) × Added adds sums₀ sums from to i
+Inv-loop sums₀ from to adds i₀ sums i = (i ≤ 8) × SumsAdded adds sums₀ sums from to i
 
 abbrev μ-loop : tie.MeasureT-loop
 μ-loop sums₀ from to adds i₀ sums i = 8 - i

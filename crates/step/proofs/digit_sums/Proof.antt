@@ -4,13 +4,13 @@ use mathlib.Core.Path.{_≡_}
 use Prim.Native.Nat.{_*_, _-_, _≤_, _<_}
 use native.Mathlib.Omega.{arith}
 use borrow.Author.Needs.{needs}
-use Rattle.step.specs.Cells.{Added}
+use Rattle.step.specs.Cells.{SumsAdded}
 use Rattle.step.proofs.Doubling.{added-none, row-asked, row-added}
 use Rattle.step.proofs.digit_sums.Statement.{statement}
 use Rattle.step.proofs.digit_sums.Tie as tie
 
 abbrev Inv-loop : tie.InvT-loop
-Inv-loop sums₀ count adds letter₀ sums letter = (letter ≤ count) × Added adds sums₀ sums 0 (8 * count) (8 * letter)
+Inv-loop sums₀ count adds letter₀ sums letter = (letter ≤ count) × SumsAdded adds sums₀ sums 0 (8 * count) (8 * letter)
 
 abbrev μ-loop : tie.MeasureT-loop
 μ-loop sums₀ count adds letter₀ sums letter = count - letter

@@ -7,12 +7,12 @@ use borrow.Author.Needs.{needs}
 use lib.ListN.{length}
 use lib.Seq.{take-all}
 use Rattle.step.specs.Eight.{padded}
-use Rattle.step.proofs.KindCodes.{Noted, noted-none, passed, below-eight, noted}
+use Rattle.step.proofs.KindCodes.{KindsNoted, noted-none, kind-passed, below-eight, kind-noted}
 use Rattle.step.proofs.kinds_of.Statement.{statement}
 use Rattle.step.proofs.kinds_of.Tie as tie
 
 abbrev Inv-loop : tie.InvT-loop
-Inv-loop codes kinds₀ m₀ i₀ kinds m i = (i ≤ 64) × Noted codes i kinds m
+Inv-loop codes kinds₀ m₀ i₀ kinds m i = (i ≤ 64) × KindsNoted codes i kinds m
 
 abbrev μ-loop : tie.MeasureT-loop
 μ-loop codes kinds₀ m₀ i₀ kinds m i = 64 - i
@@ -37,8 +37,8 @@ loop-again c =
     let h : at-loop .loop .i < length (at-loop .before .args .codes .now) = omega arith in (
       omega arith,
       ⊎-elim
-          (λ w. rw (w .1, w .2) (noted s h (sym (c .before .is-atom .ensures) ∙ w .0 .taken) (at-loop .before .pre .1)))
-          (λ w. rw (w .1, w .2) (passed s h (sym (c .before .is-atom .ensures) ∙ w .0 .left)))
+          (λ w. rw (w .1, w .2) (kind-noted s h (sym (c .before .is-atom .ensures) ∙ w .0 .taken) (at-loop .before .pre .1)))
+          (λ w. rw (w .1, w .2) (kind-passed s h (sym (c .before .is-atom .ensures) ∙ w .0 .left)))
           (c .if1 .came),
     )
 

@@ -8,7 +8,7 @@ use mir.Syntax.{w32}
 use mir.ValLaws.{toZ-ofZ}
 use Rattle.scope.specs.Whole.{eqZ, even, half}
 use Rattle.scope.specs.States.{deadCell}
-use Rattle.theory.specs.Bits.{read}
+use Rattle.theory.specs.Numbers.Bits.{read}
 use Rattle.step.specs.Cells.{livePart}
 use Rattle.step.proofs.Signed.{live-small, step-by}
 use Rattle.step.proofs.step_cell.Statement.{statement}

@@ -7,7 +7,7 @@ use borrow.Author.Needs.{needs}
 use lib.ListN.{getD, replicate}
 use lib.IntN.{pos}
 use Rattle.scope.specs.Whole.{atFront}
-use Rattle.theory.specs.Bits.{read}
+use Rattle.theory.specs.Numbers.Bits.{read}
 use Rattle.step.specs.Eight.{listed, front-none, front-next, length-listed}
 use Rattle.step.specs.Cells.{stepAt, stepCells}
 use Rattle.step.proofs.step_row.Statement.{statement}

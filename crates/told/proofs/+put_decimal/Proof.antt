@@ -1,5 +1,5 @@
 -- `told::put_decimal` meets its contract. The measure is the number. Assumes nothing.
-use Prim.Native.Nat.{ℕ, _+_, _<_, _/_}
+use Prim.Native.Nat.{ℕ, _<_, _/_}
 use native.Mathlib.Omega.{arith}
 use mathlib.Core.Path.{_≡_, sym, _∙_}
 use mathlib.Core.List.{List, [], _∷_, _++_}

@@ -1,5 +1,5 @@
 -- `told::tell` meets its contract: the text goes to the front of the buffer where it has room. Assumes nothing.
-use Prim.Native.Nat.{ℕ, _+_, _≤_, _<_}
+use Prim.Native.Nat.{ℕ, _≤_, _<_}
 use native.Mathlib.Omega.{arith}
 use mathlib.Core.Path.{_≡_, sym}
 use mathlib.Core.List.{List, _++_}
@@ -10,7 +10,7 @@ use borrow.Author.Needs.{needs}
 use borrow.Author.Tests.{le-leb, lt-leb}
 use Rattle.scope.specs.declared.DecideAnswer.{DecideAnswer}
 use Rattle.scope.specs.Whole.{atFront}
-use Rattle.told.specs.Text.{textOf, Tells, telling, told, longest}
+use Rattle.told.specs.Text.{textOf, TextTells, telling, told, longest}
 use Rattle.told.specs.Writers.{Put}
 use Rattle.told.proofs.tell.Statement.{statement}
 use Rattle.told.proofs.tell.Tie as tie
@@ -31,7 +31,7 @@ module _ (n : ℕ) (answer : DecideAnswer) (word out before after : List ℕ) (r
       let d : k ≡ length (textOf n answer word) = rw (p .front) at e in
       rw (le-leb (length (textOf n answer word)) (length out) (omega (arith, text-length)), d, g)
 
-  tells : r ≤ longest → {k : ℕ} {l : List ℕ} → telling k l ≡ told n answer word out → Tells n answer word out k l
+  tells : r ≤ longest → {k : ℕ} {l : List ℕ} → telling k l ≡ told n answer word out → TextTells n answer word out k l
   tells h e = record { is = e; room = λ g. omega (arith, text-length) }
 
 returns : tie.Need-returns

@@ -7,7 +7,7 @@ use lib.Signed.{ltZ}
 use mir.Syntax.{w32, w64}
 use mir.Val.{SFits, toZ, ofZ}
 use mir.ValLaws.{toZ-ofZ, ofZ-fits}
-use Rattle.theory.specs.Bits.{fits-64, widened}
+use Rattle.theory.specs.Numbers.Bits.{fits-64, widened}
 use Rattle.whole.proofs.TwosComplement.{bits-below, bits-above}
 use Rattle.whole.proofs.bits_of.Statement.{statement}
 use Rattle.whole.proofs.bits_of.Tie as tie

@@ -11,7 +11,9 @@ use mir.Syntax.{w32}
 use mir.Val.{SFits}
 use mir.ValLaws.{toZ-ofZ}
 use Rattle.scope.specs.Whole.{even}
-use Rattle.theory.specs.Magnitude.{abs-sub, abs-half, fits-abs, quot-even, quot-odd, rem-even, rem-odd}
+use Rattle.scope.specs.Sizes.{mostConstant}
+use Rattle.theory.specs.Entries.KeyCells.{mostSum}
+use Rattle.theory.specs.Numbers.Magnitude.{abs-sub, abs-half, fits-abs, quot-even, quot-odd, rem-even, rem-odd}
 use Rattle.whole.proofs.floor_half.Statement.{statement}
 use Rattle.whole.proofs.floor_half.Tie as tie
 use Rattle.whole.proofs.floor_half.Reads as reads
@@ -25,7 +27,7 @@ record Sizes (e s : ℤ) : Type 0 where
   below : SFits w32 ((e -ℤ s) -ℤ pos 1)
   lower : SFits w32 (quotZ ((e -ℤ s) -ℤ pos 1) (pos 2))
 
-sizes : (e s : ℤ) → natAbs e ≤ 1000000 → natAbs s ≤ 24576 → Sizes e s
+sizes : (e s : ℤ) → natAbs e ≤ mostConstant → natAbs s ≤ mostSum → Sizes e s
 sizes e s he hs =
     let d : ℤ = e -ℤ s in
     let b : ℤ = d -ℤ pos 1 in

@@ -3,7 +3,7 @@ use mir.Syntax.{w32, w64}
 use mir.Val.{SFits, toZ}
 use mir.ValLaws.{toZ-ofZ}
 use borrow.Author.Needs.{needs}
-use Rattle.theory.specs.Bits.{fits-64}
+use Rattle.theory.specs.Numbers.Bits.{fits-64}
 use Rattle.whole.proofs.TwosComplement.{below-zero, fits-32}
 use Rattle.whole.proofs.number_of.Statement.{statement}
 use Rattle.whole.proofs.number_of.Tie as tie

@@ -9,7 +9,7 @@ use lib.Dec.{leb, ltb, eqb}
 use borrow.Author.Needs.{needs}
 use Rattle.scope.specs.Whole.{allFrom}
 use Rattle.scope.specs.Running.{cellFits}
-use Rattle.theory.specs.Tests.{failed, passed, allFrom-more, allFrom-fails, allFrom-done}
+use Rattle.theory.specs.Numbers.Tests.{failed, passed, allFrom-more, allFrom-fails, allFrom-done}
 use Rattle.words.proofs.cells_fit.Statement.{statement}
 use Rattle.words.proofs.cells_fit.Tie as tie
 

@@ -7,7 +7,7 @@ use lib.Dec.{ltb}
 use borrow.Author.Needs.{needs}
 use borrow.Author.Tests.{lt-ltb, le-ltb}
 use Rattle.scope.specs.Whole.{all}
-use Rattle.theory.specs.Tests.{all-more, all-fails, all-done}
+use Rattle.theory.specs.Numbers.Tests.{all-more, all-fails, all-done}
 use Rattle.words.proofs.letters_fit.Statement.{statement}
 use Rattle.words.proofs.letters_fit.Tie as tie
 

@@ -8,7 +8,7 @@ use Rattle.scope.specs.Whole.{all}
 use Rattle.scope.specs.Sizes.{variablesFit}
 use Rattle.scope.specs.Words.{lettersFit}
 use Rattle.scope.specs.Running.{tableFits}
-use Rattle.theory.specs.Tests.{failed, passed, from-one}
+use Rattle.theory.specs.Numbers.Tests.{failed, passed, from-one}
 use Rattle.words.proofs.Running.{ran-no-variables, ran-no-table, ran-no-letter, ran-truth}
 use Rattle.words.proofs.run.Statement.{statement}
 use Rattle.words.proofs.run.Tie as tie

@@ -6,7 +6,7 @@ use lib.ListN.{length, getD, drop}
 use lib.Dec.{eqb}
 use borrow.Author.Needs.{needs}
 use Rattle.scope.specs.Running.{tableRows, rowAfter, saysYes}
-use Rattle.words.proofs.Tables.{Walk, walk, accept-within, next-within, next-row, row-step, row-last}
+use Rattle.words.proofs.Tables.{TableWalk, walk, accept-within, next-within, next-row, row-step, row-last}
 use Rattle.words.proofs.says_yes.Statement.{statement}
 use Rattle.words.proofs.says_yes.Tie as tie
 
@@ -19,7 +19,7 @@ abbrev μ-loop : tie.MeasureT-loop
 -- what the loop leans on
 at-loop :
     (c : tie.At-loop Inv-loop μ-loop) →
-    Walk (c .before .before .before .before .args .n) (c .before .table-width .result) (tableRows (c .before .before .before .before .args .n) (c .before .before .before .before .args .cells .now)) (c .before .before .before .before .args .cells .now) (c .before .before .before .before .args .word .now)
+    TableWalk (c .before .before .before .before .args .n) (c .before .table-width .result) (tableRows (c .before .before .before .before .args .n) (c .before .before .before .before .args .cells .now)) (c .before .before .before .before .args .cells .now) (c .before .before .before .before .args .word .now)
 at-loop c = walk (c .before .before .before .before .pre) (c .before .table-width .ensures)
 
 inside :

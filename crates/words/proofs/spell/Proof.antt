@@ -10,7 +10,7 @@ use Rattle.scope.specs.declared.SpellAnswer.{SpellAnswer}
 use Rattle.scope.specs.Whole.{all}
 use Rattle.scope.specs.Sizes.{variablesFit}
 use Rattle.scope.specs.Words.{lettersFit}
-use Rattle.theory.specs.Tests.{failed, passed, from-one}
+use Rattle.theory.specs.Numbers.Tests.{failed, passed, from-one}
 use Rattle.words.proofs.Spelling.{spelt-no-variables, spelt-no-variable, spelt-no-letter, spelt-long, spelt-value}
 use Rattle.words.proofs.spell.Statement.{statement}
 use Rattle.words.proofs.spell.Tie as tie

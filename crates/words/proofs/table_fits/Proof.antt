@@ -1,7 +1,7 @@
 -- `words::table_fits` meets its contract. Assumes nothing.
 use mathlib.Core.Path.{sym, _∙_}
 use borrow.Author.Needs.{needs}
-use Rattle.theory.specs.Tests.{failed, passed}
+use Rattle.theory.specs.Numbers.Tests.{failed, passed}
 use Rattle.words.proofs.Tables.{table-ragged, table-miscounted, table-counted}
 use Rattle.words.proofs.table_fits.Statement.{statement}
 use Rattle.words.proofs.table_fits.Tie as tie

@@ -1,78 +1,10 @@
--- `lent::telling::tell_decided` meets its contract, case by case of the answer.
-use mathlib.Core.Path.{refl}
+-- `lent::telling::tell_decided` meets its contract.
 use borrow.Author.Needs.{needs}
 use Rattle.lent.proofs.telling.tell_decided.Statement.{statement}
 use Rattle.lent.proofs.telling.tell_decided.Tie as tie
 
 returns : tie.Need-returns
-returns c =
-    rw (c .before .before .before .before .before .before .before .answer .given .1)
-    (record {
-      number = refl;
-      told = rw (c .before .before .before .wide2 .ensures, c .before .before .before .before .wide .ensures) at (c .before .before .put-four .ensures);
-    })
-
-returns-2 : tie.Need-returns-2
-returns-2 c =
-    rw (c .before .before .before .before .before .before .answer2 .given .1)
-    (record {
-      number = refl;
-      told = rw (c .before .before .before .wide3 .ensures) at (c .before .before .put-four2 .ensures);
-    })
-
-returns-3 : tie.Need-returns-3
-returns-3 c =
-    rw (c .before .before .before .before .before .before .answer3 .given .1)
-    (record {
-      number = refl;
-      told = rw (c .before .before .before .wide4 .ensures) at (c .before .before .put-four3 .ensures);
-    })
-
-returns-4 : tie.Need-returns-4
-returns-4 c =
-    rw (c .before .before .before .before .before .before .before .answer4 .given .1)
-    (record {
-      number = refl;
-      told = rw (c .before .before .before .wide6 .ensures, c .before .before .before .before .wide5 .ensures) at (c .before .before .put-four4 .ensures);
-    })
-
-returns-5 : tie.Need-returns-5
-returns-5 c =
-    rw (c .before .before .before .before .before .before .before .answer5 .given .1)
-    (record {
-      number = c .wide-byte .ensures;
-      told = rw (c .before .before .before .before .wide7 .ensures) at (c .before .before .before .put-four5 .ensures);
-    })
+returns c = let made = c .before .before .before .before .decide-told .ensures in rw (made .1, made .2) at (c .before .before .put .ensures)
 
 pub tell-decided-spec : {M : Type 1} → statement M
-tell-decided-spec =
-    tie.close
-    (tie.spec
-    (λ c. search needs)
-    (λ c κs. search needs)
-    (λ c κs. search needs)
-    (λ c κs. search needs)
-    (λ c. search needs)
-    (λ c κs. search needs)
-    (λ c κs. search needs)
-    (λ c. search needs)
-    (λ c κs. search needs)
-    (λ c κs. search needs)
-    (λ c. search needs)
-    (λ c κs. search needs)
-    (λ c κs. search needs)
-    (λ c κs. search needs)
-    (λ c. search needs)
-    (λ c κs. search needs)
-    (λ c κs. search needs)
-    (λ c κs. search needs)
-    (λ c. search needs)
-    returns
-    (λ c. search needs)
-    returns-2
-    (λ c. search needs)
-    returns-3
-    (λ c. search needs)
-    returns-4
-    (λ c. search needs)
-    returns-5)
+tell-decided-spec = tie.close (tie.spec (λ c κs. search needs) (λ c κs. search needs) (λ c. search needs) returns)

@@ -4,7 +4,7 @@ use borrow.Author.Needs.{needs}
 use lib.IntN.{pos, _-ℤ_}
 use mir.Syntax.{w32}
 use mir.ValLaws.{toZ-pos}
-use Rattle.theory.specs.Magnitude.{abs-sub, fits-abs}
+use Rattle.theory.specs.Numbers.Magnitude.{abs-sub, fits-abs}
 use Rattle.vectors.proofs.numbers.negated.Statement.{statement}
 use Rattle.vectors.proofs.numbers.negated.Tie as tie
 

@@ -1,0 +1,3 @@
+-- Laws of the letters' bits: those that are tried next, and those that are passed over.
+mod Freshness
+pub mod Skipping

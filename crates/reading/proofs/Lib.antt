@@ -1,0 +1,7 @@
+-- Laws that the proofs of reading cite.
+mod Framed
+mod Taken
+mod Noting
+mod Turns
+mod Bodies
+mod Ends

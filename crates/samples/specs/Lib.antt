@@ -1,0 +1,2 @@
+-- Lines of outside vectors against the definitions.
+pub mod Vectors

@@ -1,0 +1,1 @@
+// No code: outside vectors against the definitions of scope.

@@ -1,0 +1,8 @@
+-- Laws that the proofs of writing cite.
+mod Sweeps
+mod Checking
+mod Lengths
+mod Walks
+mod Stores
+mod Placing
+mod Outcomes
