@@ -33,8 +33,7 @@
  *    1   bytes end too soon                                    every lent buffer unchanged
  *    2   kind or node code not due                             the same
  *    3   wrong body length                                     the same
- *    4   n, a variable's number, a coefficient or a constant   the same
- *        beyond its limit
+ *    4   n or a variable's number beyond its limit             the same
  *    5   too many nodes or atoms, or too deep                  the same
  *    6   something left over                                   the same
  *    7   no room                                               the rows lent, R, as the states; key and path rows 0 to R-1 filled
@@ -46,10 +45,13 @@
  *        limit, or a word too long to spell
  *   10   a letter of 2^n or more                               nothing written
  *   11   a malformed table                                     nothing written
+ *   12   a coefficient beyond its limit                        every lent buffer unchanged
+ *   13   a constant beyond its limit                           the same
  *
  * "Unchanged" and "nothing written" are of the buffers beside `told`. The place is the first byte of the record that was refused,
- * or the byte that is left over; in writing, the index of the node, or 64 where only a number is left over; and 0 for 7 to 11, for
- * n in writing, and for 4 in running and spelling.
+ * for 12 and 13 that of the number itself, for 6 the byte that is left over; in writing, the index of the node, or 64 where only a
+ * number is left over; and 0 for 7 to 11, for n in writing, and for 4 in running and spelling. Of an atom's numbers the first that
+ * is beyond its limit counts, the constant being the last.
  */
 #ifndef PELOHUAKI_H
 #define PELOHUAKI_H
@@ -93,7 +95,9 @@ enum pelohuaki_refusal {
     PELOHUAKI_TOO_SHORT = 8,
     PELOHUAKI_VALUES = 9,
     PELOHUAKI_LETTER = 10,
-    PELOHUAKI_TABLE = 11
+    PELOHUAKI_TABLE = 11,
+    PELOHUAKI_COEFFICIENT_BEYOND = 12,
+    PELOHUAKI_CONSTANT_BEYOND = 13
 };
 
 enum pelohuaki_verdict {
@@ -135,7 +139,7 @@ uint64_t pelohuaki_record_at(const uint8_t *bytes, size_t bytes_len, size_t at, 
 /*
  * Reads a question's bytes into the parts of a held question: 64 node codes in the formula's order, 48 coefficients (row i of six,
  * from 6 * i on, has those of atom i) and 8 constants, unused ones 0. Of each part as many cells are written, from the front on, as
- * are lent; cells past the part's own are unchanged. told: place, n. Refusals: 1 to 6.
+ * are lent; cells past the part's own are unchanged. told: place, n. Refusals: 1 to 6, 12, 13.
  */
 uint64_t pelohuaki_read(const uint8_t *bytes, size_t bytes_len, uint8_t *codes, size_t codes_len, int32_t *coefficients,
                         size_t coefficients_len, int32_t *constants, size_t constants_len, uint64_t *told, size_t told_len);
@@ -143,7 +147,7 @@ uint64_t pelohuaki_read(const uint8_t *bytes, size_t bytes_len, uint8_t *codes, 
 /*
  * Writes the held question of these parts at the front of the byte buffer, whose other cells are unchanged. A cell that is not lent
  * (of 64, 48 and 8) counts as 0, cells past them are ignored. PELOHUAKI_BYTES bytes are room for every question.
- * told: place, how many bytes were written. Refusals: 4, 2, 5, 6, 8.
+ * told: place, how many bytes were written. Refusals: 4, 2, 5, 12, 13, 6, 8.
  */
 uint64_t pelohuaki_write(uint8_t n, const uint8_t *codes, size_t codes_len, const int32_t *coefficients, size_t coefficients_len,
                          const int32_t *constants, size_t constants_len, uint8_t *bytes, size_t bytes_len, uint64_t *told,
@@ -151,7 +155,7 @@ uint64_t pelohuaki_write(uint8_t n, const uint8_t *codes, size_t codes_len, cons
 
 /*
  * Whether n values, in variable order, satisfy the question.
- * told: place, 1 for yes or 0 for no. Refusals: 1 to 6 of the question's bytes, 9.
+ * told: place, 1 for yes or 0 for no. Refusals: those of reading the bytes, 9.
  */
 uint64_t pelohuaki_judge(const uint8_t *bytes, size_t bytes_len, const uint64_t *values, size_t values_len, uint64_t *told,
                          size_t told_len);
@@ -161,7 +165,7 @@ uint64_t pelohuaki_judge(const uint8_t *bytes, size_t bytes_len, const uint64_t 
  * the smallest such state, w, the first word stands at the front of `word`. Never, for any naturals however large, if the reachable
  * states are at most R and none accepts. No room otherwise. Filled are, for every state counted, its row of m keys and its two cells
  * of the path: the state and the letter from which it was numbered (0 and 0 for the start). All other cells are unchanged.
- * told: place, verdict (1 found, 2 never), states (found: w + 1), letters of the word. Refusals: 1 to 6 of the question's bytes, 7, 8.
+ * told: place, verdict (1 found, 2 never), states (found: w + 1), letters of the word. Refusals: those of reading the bytes, 7, 8.
  */
 uint64_t pelohuaki_decide(const uint8_t *bytes, size_t bytes_len, int32_t *keys, size_t keys_len, uint16_t *path, size_t path_len,
                           uint8_t *word, size_t word_len, uint64_t *told, size_t told_len);
@@ -169,7 +173,7 @@ uint64_t pelohuaki_decide(const uint8_t *bytes, size_t bytes_len, int32_t *keys,
 /*
  * Builds the question's table. R is the least of keys_len / m, table_len / (1 + 2^n) and 65,535; built if the reachable states are at
  * most R. Row s of the table starts at cell s * (1 + 2^n): 1 if the state accepts, else 0, then the next state for each letter in order.
- * told: place, verdict (3 built), states, 0. Refusals: 1 to 6 of the question's bytes, 7.
+ * told: place, verdict (3 built), states, 0. Refusals: those of reading the bytes, 7.
  */
 uint64_t pelohuaki_build(const uint8_t *bytes, size_t bytes_len, int32_t *keys, size_t keys_len, uint16_t *table, size_t table_len,
                          uint64_t *told, size_t told_len);

@@ -1,8 +1,10 @@
-"""Writes the tables of crates/samples/specs/Vectors.antt from outside vectors: python3 tools/vectors.py VECTORS
+"""Writes the tables of crates/samples/specs/Vectors.antt from outside vectors: python3 tools/vectors.py VECTORS..
 
-VECTORS has one call a line with its outcome. Of each call and outcome (for a refusal: of each number) the lines that
-are the quickest to compute are taken, as many as WANTED says, and of reading and writing the longest one too. The
-questions of the lines that were read or judged are put as trees besides, taken out of their bytes here.
+A file of VECTORS has one call a line with its outcome, which stands behind a `=` where every lent cell is told. Of each
+file, call and outcome (for a refusal: of each number) the lines that are the quickest to compute are taken, as many as
+WANTED says, and of reading and writing the longest one too. The questions of the lines that were read or judged are put
+as trees besides, taken out of their bytes here. Lines whose cells are told by a hash, and those of the asking program,
+are left to crates/vectors and bench/.
 """
 import sys
 
@@ -17,9 +19,15 @@ WANTED = {
     "decide found at once": 3, "decide found later": 6, "decide never": 4, "decide no-room": 5, "decide refused": 1,
     "build built": 6, "build no-room": 5,
     "spell value": 6, "spell refused": 4,
+    # with every lent cell told
+    "record record": 4, "record refused": 2,
+    "decideCells found": 4, "decideCells never": 2, "decideCells no-room": 3, "decideCells refused": 1,
+    "buildCells built": 3, "buildCells no-room": 3, "buildCells refused": 1,
 }
 # where the outcome stands in a line of each call
-OUTCOME = {"read": 2, "write": 6, "judge": 3, "decide": 4, "build": 3, "spell": 4}
+OUTCOME = {"read": 2, "write": 6, "record": 3, "judge": 3, "decide": 4, "build": 3, "spell": 4, "decideCells": 5, "buildCells": 4}
+# the calls whose lines are put apart: a line of Outcomes has no room for them
+APART = ("record", "decideCells", "buildCells")
 
 
 def joined(items):
@@ -50,8 +58,16 @@ def question(words):
         joined(unpadded([whole(x) for x in naturals(constants)])))
 
 
+def wholes(text):
+    return joined([whole(x) for x in naturals(text)])
+
+
+def octets_of(text):
+    return b"" if text == "-" else bytes.fromhex(text)
+
+
 def octets(text):
-    return joined([] if text == "-" else list(bytes.fromhex(text)))
+    return joined(list(octets_of(text)))
 
 
 def refusal(words):
@@ -85,10 +101,30 @@ def line(words):
         cells = int(words[2]) * (1 + 2 ** bytes.fromhex(words[1])[4])
         gives = f"buildsCells {octets(words[1])} {words[2]}"
         should = f"cellsIn {cells} {rest[0]} {joined(naturals(rest[1]))}" if said == "built" else f"noCellsIn {cells} {rest[0]}"
+    elif call == "record":
+        gives = f"recordAt {octets(words[1])} {words[2]}"
+        should = f"taken {words[2]} {rest[0]} {len(octets_of(rest[1]))} {rest[2]}" if said == "record" else f"RecordAnswer.Refused {refusal(rest)}"
+    elif call == "decideCells":
+        gives = f"decidedCells {octets(words[1])} {words[2]} {words[3]} {words[4]}"
+        answer, keys, path, word = {
+            "found": lambda: (f"(DecideAnswer.Found {rest[0]} {len(naturals(rest[1]))})", rest[3], rest[5], rest[1]),
+            "never": lambda: (f"(DecideAnswer.Never {rest[0]})", rest[2], rest[4], "-"),
+            "no-room": lambda: (f"(DecideAnswer.NoRoom {rest[0]})", rest[2], rest[4], "-"),
+            "refused": lambda: (f"(DecideAnswer.Refused {refusal(rest)})", "-", "-", "-"),
+        }[said]()
+        should = f"decisionIn {answer} {words[2]} {wholes(keys)} {words[3]} {joined(naturals(path))} {words[4]} {joined(naturals(word))}"
+    elif call == "buildCells":
+        gives = f"builtCells {octets(words[1])} {words[2]} {words[3]}"
+        answer, keys, table = {
+            "built": lambda: (f"(BuildAnswer.Built {rest[0]})", rest[2], rest[4]),
+            "no-room": lambda: (f"(BuildAnswer.NoRoom {rest[0]})", rest[2], "-"),
+            "refused": lambda: (f"(BuildAnswer.Refused {refusal(rest)})", "-", "-"),
+        }[said]()
+        should = f"tableIn {answer} {words[2]} {wholes(keys)} {words[3]} {joined(naturals(table))}"
     else:
         gives = f"spells {words[1]} {words[2]} {joined(naturals(words[3]))}"
         should = f"spelling (SpellAnswer.Value {rest[0]})" if said == "value" else f"spelling (SpellAnswer.Refused {refusal(rest)})"
-    return f"    line ({gives}) ({should}) ∷"
+    return f"    {'pair' if words[0] in APART else 'line'} ({gives}) ({should}) ∷"
 
 
 def tree(records, n):
@@ -128,19 +164,30 @@ def tree_line(words):
 def cost(words):
     """What a line takes to compute: where there is a search, the rows squared times the letters; and its length."""
     search = 0
-    if words[0] in ("decide", "build"):
-        states = int(words[OUTCOME[words[0]] + 1]) if words[OUTCOME[words[0]]] in ("never", "built") else int(words[2])
-        search = states * states * 2 ** bytes.fromhex(words[1])[4]
+    if words[0] in ("decide", "build", "decideCells", "buildCells"):
+        said, states = words[OUTCOME[words[0]]:][:2]
+        rows = states if said in ("never", "built") or words[0] in APART else words[2]
+        search = 0 if said == "refused" else int(rows) ** 2 * 2 ** octets_of(words[1])[4]
     return search + len(" ".join(words))
+
+
+def lines_of(path):
+    for text in open(path):
+        words = text.split()
+        if "=" in words:
+            words.remove("=")
+            if words[0] in ("decide", "build"):
+                words[0] += "Cells"
+        if words[0] != "ask" and "short" not in words and "#" not in text:
+            yield words
 
 
 def chosen(path):
     groups = {}
-    for text in open(path):
-        words = text.split()
+    for words in lines_of(path):
         said = words[OUTCOME[words[0]]]
         number = words[OUTCOME[words[0]] + 1] if said == "refused" else ""
-        if said == "found":
+        if said == "found" and words[0] == "decide":
             said += " at once" if words[-1] == "-" else " later"
         groups.setdefault((words[0], said, number), []).append(words)
     for (call, said, number), lines in sorted(groups.items()):
@@ -154,12 +201,16 @@ def chosen(path):
 if __name__ == "__main__":
     head = open(FILE).read().split(MARK)[0]
     by_call = {}
-    for words in chosen(sys.argv[1]):
-        by_call.setdefault(words[0], []).append(line(words))
-        if tree_line(words):
-            by_call.setdefault("tree", []).append(tree_line(words))
+    for path in sys.argv[1:]:
+        for words in chosen(path):
+            by_call.setdefault(words[0], []).append(line(words))
+            if tree_line(words):
+                by_call.setdefault("tree", []).append(tree_line(words))
     with open(FILE, "w") as out:
         out.write(head + MARK)
         for call, lines in by_call.items():
-            out.write(f"\nabbrev {call}Vectors : List Line\n{call}Vectors =\n" + "\n".join(lines) + "\n    []\n")
-            out.write(f"\npub {call}-vectors-hold : allGiven {call}Vectors ≡ wanted {call}Vectors\nunfolding running\n{call}-vectors-hold = refl\n")
+            kind = {"record": "Pair RecordAnswer", "decideCells": "Pair Decided", "buildCells": "Pair Built"}.get(call)
+            lists = f"List ({kind})" if kind else "List Line"
+            claim = f"allIn {call}Vectors ≡ allWanted {call}Vectors" if kind else f"allGiven {call}Vectors ≡ wanted {call}Vectors"
+            out.write(f"\nabbrev {call}Vectors : {lists}\n{call}Vectors =\n" + "\n".join(lines) + "\n    []\n")
+            out.write(f"\npub {call}-vectors-hold : {claim}\nunfolding running\n{call}-vectors-hold = refl\n")

@@ -203,12 +203,51 @@ fn atoms_in(records: &[Record]) -> Vec<usize> {
     (0..records.len()).filter(|&i| records[i].1 == 0x0010 || records[i].1 == 0x0011).collect()
 }
 
-/// The bytes of a question, damaged in one to three ways (which may leave it valid).
-pub fn damaged_bytes(random: &mut Random) -> Vec<u8> {
-    let mut bytes = question_bytes(random);
-    let n = bytes[4] as usize;
-    let mut records = records(&bytes);
-    match random.below(16) {
+/// A field of an atom: the first coefficient, the last, any, or the constant, which is field n.
+fn field(random: &mut Random, n: usize) -> usize {
+    match random.below(6) {
+        0 => 0,
+        1 => n - 1,
+        2 | 3 => random.below(n),
+        _ => n,
+    }
+}
+
+/// A number for a field: about its limit, about the other limit, or far beyond both.
+fn about_limit(random: &mut Random, field: usize, n: usize) -> i32 {
+    let (limit, other) = if field < n { (Question::COEFFICIENT, Question::CONSTANT) } else { (Question::CONSTANT, Question::COEFFICIENT) };
+    let size = match random.below(8) {
+        0 => limit - 1,
+        1 | 2 => limit,
+        3 | 4 => limit + 1,
+        5 => random.pick(&[other, other + 1]),
+        _ => return random.pick(&[i32::MAX, i32::MIN, i32::MIN + 1, 1 << 16, 1 << 24, -1 << 16]),
+    };
+    random.pick(&[size, -size])
+}
+
+/// Numbers about their limits, in one field or more of one atom or more.
+fn numbers_about_limits(random: &mut Random, records: &mut [Record]) {
+    // Where the records are damaged already, a body may have any length.
+    let atoms: Vec<usize> = atoms_in(records).into_iter().filter(|&i| records[i].2.len() >= 8).collect();
+    if atoms.is_empty() {
+        return;
+    }
+    let mut i = random.pick(&atoms);
+    for _ in 0..random.pick(&[1, 1, 2, 4]) {
+        let n = records[i].2.len() / 4 - 1;
+        let j = field(random, n);
+        let number = about_limit(random, j, n);
+        records[i].2[4 * j..4 * j + 4].copy_from_slice(&number.to_le_bytes());
+        if random.one_in(2) {
+            i = random.pick(&atoms);
+        }
+    }
+}
+
+/// Damages the records of a question in one way.
+fn damage(random: &mut Random, n: usize, records: &mut Vec<Record>) {
+    match random.below(12) {
         0 => {
             // A wrong kind.
             let i = random.below(records.len());
@@ -226,33 +265,24 @@ pub fn damaged_bytes(random: &mut Random) -> Vec<u8> {
             records[i].2.resize(length, 0);
             records[i].0 = length as u16;
         }
-        3 | 4 => {
-            // A number beyond its limit, or just at it.
-            let atoms = atoms_in(&records);
-            let i = random.pick(&atoms);
-            let j = random.below(n + 1);
-            let limit = if j < n { Question::COEFFICIENT } else { Question::CONSTANT };
-            let number = random.pick(&[limit, -limit, limit + 1, -limit - 1, i32::MAX, i32::MIN, i32::MIN + 1, 1 << 16]);
-            records[i].2[4 * j..4 * j + 4].copy_from_slice(&number.to_le_bytes());
-        }
-        5 => records[0].2[0] = random.pick(&[0, 1, 6, 7, 8, 128, 255]),
-        6 => {
+        3 => records[0].2[0] = random.pick(&[0, 1, 6, 7, 8, 128, 255]),
+        4 => {
             // Nots before a part: too deep, or too many nodes.
             let i = 1 + random.below(records.len() - 2);
             for _ in 0..random.pick(&[1, 10, 14, 15, 16, 17, 60, 70]) {
                 records.insert(i, (0, 0x0020, Vec::new()));
             }
         }
-        7 => {
+        5 => {
             // More atoms joined on: a ninth.
             for _ in 0..random.pick(&[1, 4, 7, 8, 9]) {
-                let i = random.pick(&atoms_in(&records));
+                let i = random.pick(&atoms_in(records));
                 let atom = atom_record(random, n);
                 records.insert(i, (0, random.pick(&[0x0021, 0x0022]), Vec::new()));
                 records.insert(i + 1, atom);
             }
         }
-        8 => {
+        6 => {
             // Nots over every part, as far as they go: many nodes.
             let mut i = 1;
             while i < records.len() - 1 {
@@ -263,28 +293,46 @@ pub fn damaged_bytes(random: &mut Random) -> Vec<u8> {
                 i += 1;
             }
         }
-        9 => {
+        7 => {
             let i = random.below(records.len());
             records.remove(i);
         }
-        10 => {
+        8 => {
             let i = random.below(records.len());
             let again = records[i].clone();
             records.insert(i, again);
         }
-        11 => {
+        9 => {
             let i = random.below(records.len());
             let j = random.below(records.len());
             records.swap(i, j);
         }
-        12 => {
+        10 => {
             // Eight atoms in a shallow formula, each under nots: about 64 nodes.
-            let head = records[0].clone();
-            records = vec![head];
-            crowd(random, 8, n, &mut records);
+            records.truncate(1);
+            crowd(random, 8, n, records);
             records.push((0, 0x00FF, Vec::new()));
         }
         _ => {}
+    }
+}
+
+/// The bytes of a question, damaged in one way or more (which may leave it valid).
+pub fn damaged_bytes(random: &mut Random) -> Vec<u8> {
+    let mut bytes = question_bytes(random);
+    let n = bytes[4] as usize;
+    let mut records = records(&bytes);
+    match random.below(7) {
+        0 | 1 => numbers_about_limits(random, &mut records),
+        2 => {
+            numbers_about_limits(random, &mut records);
+            damage(random, n, &mut records);
+        }
+        3 => {
+            damage(random, n, &mut records);
+            numbers_about_limits(random, &mut records);
+        }
+        _ => damage(random, n, &mut records),
     }
     bytes = joined(&records);
     for _ in 0..random.below(3) {
@@ -381,17 +429,26 @@ pub fn held(random: &mut Random) -> Question {
     let n = question.n as usize;
     let used = question.codes.iter().take_while(|&&code| code != 0).count();
     let m = question.atoms().clamp(1, 8);
-    for _ in 0..random.pick(&[0, 0, 1, 1, 1, 2]) {
-        let beyond = |random: &mut Random, limit: i32| random.pick(&[limit + 1, -limit - 1, i32::MAX, i32::MIN, limit, -limit]);
-        match random.below(9) {
+    for _ in 0..random.pick(&[0, 0, 1, 1, 1, 2, 3]) {
+        match random.below(10) {
             0 => question.n = random.pick(&[0, 7, 8, 255, 1, 6]),
             1 => question.codes[random.below(used.max(1))] = 0,
             2 => question.codes[random.below(used.max(1))] = random.pick(&[6, 7, 255, 1, 3, 4]),
             3 => question.codes[(used + random.below(64)).min(63)] = random.pick(&[1, 2, 3, 4, 5, 6, 255]),
-            4 => question.coefficients[6 * random.below(m) + random.below(n)] = beyond(random, Question::COEFFICIENT),
-            5 => question.constants[random.below(m)] = beyond(random, Question::CONSTANT),
-            6 => question.coefficients[random.below(48)] = random.pick(&[1, -1, i32::MIN, 5_000]),
-            7 => question.constants[random.below(8)] = random.pick(&[1, -1, i32::MAX, 2_000_000]),
+            4..=6 => {
+                // As `numbers_about_limits` does.
+                let mut i = random.below(m);
+                for _ in 0..random.pick(&[1, 1, 2, 4]) {
+                    let j = field(random, n);
+                    let number = about_limit(random, j, n);
+                    *(if j < n { &mut question.coefficients[6 * i + j] } else { &mut question.constants[i] }) = number;
+                    if random.one_in(2) {
+                        i = random.below(m);
+                    }
+                }
+            }
+            7 => question.coefficients[random.below(48)] = random.pick(&[1, -1, i32::MIN, 5_000]),
+            8 => question.constants[random.below(8)] = random.pick(&[1, -1, i32::MAX, 2_000_000]),
             _ => {
                 // A leftover number that no node uses, if there is one.
                 let cell = 6 * (m - 1) + n;

@@ -17,9 +17,9 @@ impl Met {
     }
 
     /// Each of these was met so many times or more.
-    pub fn at_least(&self, times: usize, answers: &[&str]) {
+    pub fn at_least<S: AsRef<str>>(&self, times: usize, answers: &[S]) {
         println!("{self}");
-        for &answer in answers {
+        for answer in answers.iter().map(S::as_ref) {
             assert!(self.times(answer) >= times, "{answer}: {self}");
         }
     }

@@ -43,7 +43,7 @@ pub fn read(bytes: &[u8]) -> Result<Question, Refusal> {
                 let number = i32::from_le_bytes([cell[0], cell[1], cell[2], cell[3]]);
                 let limit = if j < n { Question::COEFFICIENT } else { Question::CONSTANT };
                 if number < -limit || number > limit {
-                    return Err(Refusal { number: 4, place });
+                    return Err(Refusal { number: if j < n { 12 } else { 13 }, place: place + 4 + 4 * j });
                 }
                 if j < n {
                     question.coefficients[6 * atoms + j] = number;
@@ -145,8 +145,11 @@ fn checked_formula(question: &Question, n: usize) -> Result<(usize, usize), Refu
         if is_atom {
             let beyond = |number: i32, limit: i32| number < -limit || number > limit;
             let coefficients = &question.coefficients[6 * atoms..6 * atoms + n];
-            if coefficients.iter().any(|&a| beyond(a, Question::COEFFICIENT)) || beyond(question.constants[atoms], Question::CONSTANT) {
-                return refuse(4);
+            if coefficients.iter().any(|&a| beyond(a, Question::COEFFICIENT)) {
+                return refuse(12);
+            }
+            if beyond(question.constants[atoms], Question::CONSTANT) {
+                return refuse(13);
             }
             atoms += 1;
             while depth > 0 && due[depth] == 0 {

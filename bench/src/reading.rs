@@ -1,5 +1,6 @@
-//! A reading of document 01 in plain Rust, for comparison: each call is a function from its inputs and lent buffers to its answer and to
-//! every buffer afterwards. Clear rather than fast; it shares nothing with the proved code or with `plain` but the types at the top.
+//! A reading of document 01, and of request E1 of document 02, in plain Rust, for comparison: each call is a function from its inputs and lent
+//! buffers to its answer and to every buffer afterwards. Clear rather than fast; it shares nothing with the proved code or with `plain` but the
+//! types at the top.
 
 #![forbid(unsafe_code)]
 
@@ -54,7 +55,7 @@ pub const KIND_END: u16 = 0x00FF;
 /// The key cell of a dead entry.
 pub const DEAD: i32 = -2_147_483_648;
 
-/// A refusal: document 01's number, and its place (0 where it names none).
+/// A refusal: its number in the documents, and its place (0 where they name none).
 #[derive(Clone, Copy, Debug, PartialEq, Eq)]
 pub struct Refusal {
     pub number: u8,
@@ -79,7 +80,7 @@ pub enum Decision {
         states: usize,
         letters: usize,
     },
-    /// Refusals 1 to 6, from reading the question.
+    /// Refusals 1 to 6, 12 or 13, from reading the question.
     Refused(Refusal),
 }
 
@@ -92,7 +93,7 @@ pub enum Building {
     NoRoom {
         states: usize,
     },
-    /// Refusals 1 to 6, from reading the question.
+    /// Refusals 1 to 6, 12 or 13, from reading the question.
     Refused(Refusal),
 }
 
@@ -192,16 +193,18 @@ pub fn read(bytes: &[u8]) -> Result<Question, Refusal> {
                 return refuse(5, place);
             }
             if is_atom {
+                // A number that is refused is so at its own first byte.
+                let numbers = place + 4;
                 for j in 0..n {
                     let coefficient = four_bytes(body, 4 * j);
                     if beyond(coefficient, Question::COEFFICIENT) {
-                        return refuse(4, place);
+                        return refuse(12, numbers + 4 * j);
                     }
                     question.coefficients[6 * atoms + j] = coefficient;
                 }
                 let constant = four_bytes(body, 4 * n);
                 if beyond(constant, Question::CONSTANT) {
-                    return refuse(4, place);
+                    return refuse(13, numbers + 4 * n);
                 }
                 question.constants[atoms] = constant;
                 atoms += 1;
@@ -281,8 +284,11 @@ pub fn bytes_of(question: &Question) -> Result<Vec<u8>, Refusal> {
         if is_atom {
             let coefficients = &question.coefficients[6 * atom..6 * atom + n];
             let constant = question.constants[atom];
-            if coefficients.iter().any(|&a| beyond(a, Question::COEFFICIENT)) || beyond(constant, Question::CONSTANT) {
-                return refuse(4, node);
+            if coefficients.iter().any(|&a| beyond(a, Question::COEFFICIENT)) {
+                return refuse(12, node);
+            }
+            if beyond(constant, Question::CONSTANT) {
+                return refuse(13, node);
             }
             for a in coefficients {
                 body.extend_from_slice(&a.to_le_bytes());

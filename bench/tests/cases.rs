@@ -1,4 +1,4 @@
-//! The cases that document 01 checks by hand, the asking program's example, and the two numberings set side by side.
+//! The cases that document 01 checks by hand, the asking program's example, refusals, and the two numberings set side by side.
 
 use pelohuaki_bench::generate::{question_of, Numbers, Random};
 use pelohuaki_bench::reading::*;
@@ -85,7 +85,7 @@ fn asking() {
     assert_eq!(ask(&bytes), "verdict found\nvalues 0 3\nletters 2 2\nstates 7\n");
     let mut beyond = bytes;
     beyond[9..13].copy_from_slice(&4_097i32.to_le_bytes());
-    assert_eq!(ask(&beyond), "refused 4 at 5\n");
+    assert_eq!(ask(&beyond), "refused 12 at 9\n");
     assert_eq!(ask(&question(1, &[EQUATION], &[&[0, 0]])), "verdict found\nvalues 0\nletters none\nstates 1\n");
     assert_eq!(ask(&question(1, &[EQUATION], &[&[2, 1]])), "verdict never\nstates 2\n");
     assert_eq!(ask(&question(1, &[EQUATION], &[&[4_096, 4_095]])), "verdict never\nstates 2\n");
@@ -112,8 +112,14 @@ fn refusals_of_reading() {
     refused(&hex("0100 0100 01 0100 0100 01"), 2, 5);
     refused(&hex("0100 0100 01 0C00 1000"), 3, 5);
     refused(&hex("0100 0100 01 0800 1000 01100000"), 1, 5);
-    refused(&hex("0100 0100 01 0800 1000 01100000 00000000"), 4, 5);
-    refused(&hex("0100 0100 01 0800 1000 01000000 41420F00"), 4, 5);
+    refused(&hex("0100 0100 01 0800 1000 01100000 00000000"), 12, 9);
+    refused(&hex("0100 0100 01 0800 1000 01000000 41420F00"), 13, 13);
+    // The first bad number in field order counts, whatever follows it.
+    refused(&hex("0100 0100 01 0800 1000 FFEFFFFF 41420F00"), 12, 9);
+    refused(&hex("0100 0100 03 1000 1000 00100000 00F0FFFF 01100000 41420F00 0000 2000"), 12, 17);
+    refused(&hex("0100 0100 03 1000 1000 00100000 00F0FFFF 00100000 BFBDF0FF 0000 2000"), 13, 21);
+    refused(&hex("0100 0100 02 0000 2100 0C00 1100 01000000 00000080 00000000 0C00 1000 01100000"), 12, 17);
+    refused(&hex("0100 0100 02 0000 2100 0C00 1100 01000000 00000000 00000000 0C00 1000 01100000 FFFFFF7F 00000080"), 12, 29);
     refused(&hex("0100 0100 01 0800 1000 01000000 40420F00"), 1, 17);
     refused(&hex("0100 0100 01 0800 1000 01000000 40420F00 0000 2000"), 2, 17);
     refused(&hex("0100 0100 01 0800 1000 01000000 40420F00 0100 FF00"), 3, 17);
@@ -146,8 +152,12 @@ fn refusals_of_writing() {
     refused(&|q| q.codes[0] = NOT, 6, 2);
     refused(&|q| q.codes[63] = NOT, 6, 63);
     refused(&|q| q.codes[3] = OR, 2, 4);
-    refused(&|q| q.coefficients[7] = 4_097, 4, 3);
-    refused(&|q| q.constants[0] = -1_000_001, 4, 1);
+    refused(&|q| q.coefficients[7] = 4_097, 12, 3);
+    refused(&|q| q.constants[0] = -1_000_001, 13, 1);
+    // In an atom a coefficient comes before the constant; of two atoms the first counts, and only then what is left over.
+    refused(&|q| (q.coefficients[1], q.constants[0]) = (-4_097, 1_000_001), 12, 1);
+    refused(&|q| (q.coefficients[6], q.constants[0]) = (-4_097, 1_000_001), 13, 1);
+    refused(&|q| (q.coefficients[2], q.constants[1]) = (4_097, i32::MIN), 13, 3);
     // A number that no atom uses, here past n in a used row, is left over and not beyond its limit.
     refused(&|q| q.coefficients[2] = 4_097, 6, 64);
     refused(&|q| q.coefficients[12] = 1, 6, 64);
@@ -155,7 +165,7 @@ fn refusals_of_writing() {
     // Where a code is left over as well, that is the place.
     refused(&|q| (q.constants[2], q.codes[40]) = (1, 9), 6, 40);
     // Earlier nodes are checked whole before later ones.
-    refused(&|q| (q.coefficients[0], q.codes[3]) = (5_000, 0), 4, 1);
+    refused(&|q| (q.coefficients[0], q.codes[3]) = (5_000, 0), 12, 1);
     refused(&|q| q.codes = [NOT; 64], 5, 16);
     // Eight ors, each with an atom under six nots as its left part, leave one part for a 65th node; 15 levels.
     refused(

@@ -1,5 +1,5 @@
 //! Generated inputs: the plain solver against the reading, every cell; the reading against what it must mean; and that the generator
-//! reaches every answer that document 01 names.
+//! reaches every answer that the documents name.
 
 use pelohuaki_bench::generate::*;
 use pelohuaki_bench::met::{building_name, decision_name, name, Met};
@@ -62,13 +62,16 @@ fn questions_of_every_size() {
     }
     let sizes = (1..=6).map(|n| format!("n {n}")).chain((1..=8).map(|m| format!("m {m}"))).chain((1..=16).map(|d| format!("depth {d}")));
     let sizes: Vec<String> = sizes.collect();
-    met.at_least(50, &sizes.iter().map(String::as_str).collect::<Vec<_>>());
+    met.at_least(50, &sizes);
     met.at_least(50, &["64 nodes", "coefficient 4096", "coefficient -4096", "constant 1000000", "constant -1000000"]);
+}
+
+fn is_atom(kind: u16) -> bool {
+    kind == KIND_EQUATION || kind == KIND_AT_MOST
 }
 
 /// Which of its reasons refusal 5 has at a place.
 fn why_too_many(bytes: &[u8], place: usize) -> &'static str {
-    let is_atom = |kind| kind == KIND_EQUATION || kind == KIND_AT_MOST;
     let (mut at, mut nodes, mut atoms) = (5, 0, 0);
     while at < place {
         let step = record(bytes, at).unwrap();
@@ -85,6 +88,67 @@ fn why_too_many(bytes: &[u8], place: usize) -> &'static str {
     }
 }
 
+/// The fields of an atom that are beyond their limits, the constant being the last.
+fn beyond(numbers: &[i32]) -> Vec<usize> {
+    let limit = |j| if j + 1 < numbers.len() { Question::COEFFICIENT } else { Question::CONSTANT };
+    (0..numbers.len()).filter(|&j| numbers[j].unsigned_abs() > limit(j) as u32).collect()
+}
+
+/// An atom that is refused by its first field that is beyond its limit: which of how many, whether just beyond, and what is said of the question
+/// once that field is 0.
+fn meet_beyond(met: &mut Met, number: u8, numbers: &[i32], then: &str) {
+    let (field, n) = (beyond(numbers)[0], numbers.len() - 1);
+    assert_eq!(number, if field < n { 12 } else { 13 });
+    met.meet(format!("{number} at {field} of {n}"));
+    if [4_097, 1_000_001].contains(&numbers[field].unsigned_abs()) {
+        met.meet(format!("{number} for {}", numbers[field]));
+    }
+    met.meet(format!("{number}, then {then}"));
+}
+
+/// Every field of every n, just beyond the limits on both sides, other numbers beyond theirs in the atom, and these answers after it.
+fn all_beyond(then: &[&str]) -> Vec<String> {
+    let fields = (1..=6).flat_map(|n| (0..n).map(move |field| format!("12 at {field} of {n}")).chain([format!("13 at {n} of {n}")]));
+    let numbers = ["12 for 4097", "12 for -4097", "13 for 1000001", "13 for -1000001"].map(String::from);
+    let atom = ["12, then 12 of the atom", "12, then 13 of the atom"].map(String::from);
+    let then = then.iter().flat_map(|then| [format!("12, then {then}"), format!("13, then {then}")]);
+    fields.chain(numbers).chain(atom).chain(then).collect()
+}
+
+fn numbers_of(body: &[u8]) -> Vec<i32> {
+    body.chunks_exact(4).map(|cell| i32::from_le_bytes(cell.try_into().unwrap())).collect()
+}
+
+/// Bytes that are refused by 12 or 13, at the number itself.
+fn meet_beyond_read(met: &mut Met, bytes: &[u8], refusal: Refusal) {
+    let mut atom = record(bytes, 5).unwrap();
+    while atom.next <= refusal.place {
+        atom = record(bytes, atom.next).unwrap();
+    }
+    let numbers = numbers_of(atom.body);
+    assert_eq!(refusal.place, atom.next - atom.body.len() + 4 * beyond(&numbers)[0]);
+    let mut without = bytes.to_vec();
+    without[refusal.place..refusal.place + 4].fill(0);
+    let then = match reading::read(&without) {
+        Ok(_) => "accepted".to_string(),
+        Err(then) if then.place < atom.next => format!("{} of the atom", then.number),
+        Err(then) => then.number.to_string(),
+    };
+    meet_beyond(met, refusal.number, &numbers, &then);
+}
+
+/// Whether an atom at this record or behind it has a number beyond its limit.
+fn beyond_from(bytes: &[u8], place: usize) -> bool {
+    let mut at = place;
+    while let Ok(step) = record(bytes, at) {
+        if is_atom(step.kind) && !beyond(&numbers_of(step.body)).is_empty() {
+            return true;
+        }
+        at = step.next;
+    }
+    false
+}
+
 #[test]
 fn read_alike() {
     let mut random = Random::new(1);
@@ -93,17 +157,23 @@ fn read_alike() {
         let bytes = any_bytes(&mut random);
         let read = reading::read(&bytes);
         assert_eq!(plain::read(&bytes), read, "{bytes:x?}");
-        match read {
-            Ok(_) => met.meet("accepted"),
-            Err(refusal) => {
-                met.meet(refusal.number.to_string());
-                if refusal.number == 5 {
-                    met.meet(why_too_many(&bytes, refusal.place));
-                }
-            }
+        let Err(refusal) = read else {
+            met.meet("accepted");
+            continue;
+        };
+        met.meet(refusal.number.to_string());
+        if refusal.number >= 12 {
+            meet_beyond_read(&mut met, &bytes, refusal);
+        } else if beyond_from(&bytes, refusal.place) {
+            met.meet(format!("{} before a number", refusal.number));
+        }
+        if refusal.number == 5 {
+            met.meet(why_too_many(&bytes, refusal.place));
         }
     }
-    met.at_least(500, &["accepted", "1", "2", "3", "4", "5", "6", "65th node", "ninth atom", "depth 17"]);
+    met.at_least(500, &["accepted", "1", "2", "3", "4", "5", "6", "12", "13", "65th node", "ninth atom", "depth 17"]);
+    met.at_least(500, &["2 before a number", "3 before a number", "4 before a number", "5 before a number"]);
+    met.at_least(100, &all_beyond(&["accepted", "1", "2", "3", "5", "6", "12", "13"]));
 }
 
 /// Reading the bytes of a question gives it back, and writing what was read gives the bytes back.
@@ -119,6 +189,22 @@ fn read_and_write_are_inverse() {
             assert_eq!(bytes_of(&question), Ok(bytes));
         }
     }
+}
+
+/// A held question that is refused by 12 or 13, at the atom's node.
+fn meet_beyond_held(met: &mut Met, question: &Question, refusal: Refusal) {
+    let n = question.n as usize;
+    let i = question.codes[..refusal.place].iter().filter(|&&code| code == EQUATION || code == AT_MOST).count();
+    let numbers = [&question.coefficients[6 * i..6 * i + n], &question.constants[i..i + 1]].concat();
+    let j = beyond(&numbers)[0];
+    let mut without = question.clone();
+    *(if j < n { &mut without.coefficients[6 * i + j] } else { &mut without.constants[i] }) = 0;
+    let then = match bytes_of(&without) {
+        Ok(_) => "written".to_string(),
+        Err(then) if then.place == refusal.place => format!("{} of the atom", then.number),
+        Err(then) => then.number.to_string(),
+    };
+    meet_beyond(met, refusal.number, &numbers, &then);
 }
 
 /// Writing takes a held question exactly if it is what reading its bytes gives; the buffer changes at its front alone.
@@ -148,17 +234,21 @@ fn write_answers() {
                 if refusal.place == 64 {
                     met.meet(format!("{} at 64", refusal.number));
                 }
+                if refusal.number >= 12 {
+                    meet_beyond_held(&mut met, &question, refusal);
+                }
             }
         }
     }
-    met.at_least(300, &["written", "2", "4", "5", "6", "8", "5 at 64", "6 at 64"]);
+    met.at_least(300, &["written", "2", "4", "5", "6", "8", "12", "13", "5 at 64", "6 at 64"]);
+    met.at_least(50, &all_beyond(&["written", "2", "5", "6", "12", "13"]));
 }
 
 #[test]
 fn judge_answers() {
     let mut random = Random::new(4);
     let mut met = Met::default();
-    for _ in 0..50_000 {
+    for _ in 0..100_000 {
         let bytes = if random.one_in(5) { damaged_bytes(&mut random) } else { question_bytes(&mut random) };
         let n = bytes.get(4).copied().unwrap_or(1).min(6);
         let values = values(&mut random, n);
@@ -166,7 +256,7 @@ fn judge_answers() {
         assert_eq!(plain::judge(&bytes, &values), judged, "{bytes:x?} {values:?}");
         met.meet(name(judged, |yes| if yes { "yes" } else { "no" }));
     }
-    met.at_least(100, &["yes", "no", "1", "2", "3", "4", "5", "6", "9"]);
+    met.at_least(100, &["yes", "no", "1", "2", "3", "4", "5", "6", "9", "12", "13"]);
 }
 
 #[test]
@@ -197,7 +287,7 @@ fn decide_alike() {
             met.meet(decision_name(compare_decide(&bytes, keys, path, word).answer));
         }
     }
-    met.at_least(30, &["found", "never", "1", "2", "3", "4", "5", "6", "7", "8"]);
+    met.at_least(30, &["found", "never", "1", "2", "3", "4", "5", "6", "7", "8", "12", "13"]);
 }
 
 #[test]
@@ -220,7 +310,7 @@ fn build_alike() {
             met.meet(building_name(compare_build(&bytes, keys, table).answer));
         }
     }
-    met.at_least(10, &["built", "1", "2", "3", "4", "5", "6", "7"]);
+    met.at_least(10, &["built", "1", "2", "3", "4", "5", "6", "7", "12", "13"]);
 }
 
 /// Around the row where the large index takes over, and past the last row that can be numbered.

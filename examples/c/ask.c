@@ -1,5 +1,5 @@
 /*
- * Asks 5x + y = 3 through every call, prints what is told, and holds each answer to document 01. Exits 1 where one differs.
+ * Asks 5x + y = 3 through every call, prints what is told, and holds each answer to documents 01 and 02. Exits 1 where one differs.
  *
  *     tools/run c
  */
@@ -20,7 +20,7 @@ static void expect(const char *what, uint64_t got, uint64_t due)
 {
     printf("%s %" PRIu64 "\n", what, got);
     if (got != due) {
-        printf("  but document 01 says %" PRIu64 "\n", due);
+        printf("  but it should be %" PRIu64 "\n", due);
         differences++;
     }
 }
@@ -28,7 +28,7 @@ static void expect(const char *what, uint64_t got, uint64_t due)
 static void expect_cells(const char *what, const void *got, const void *due, size_t size)
 {
     int same = memcmp(got, due, size) == 0;
-    printf("%s: %s\n", what, same ? "as they should be" : "OTHER THAN DOCUMENT 01 SAYS");
+    printf("%s: %s\n", what, same ? "as they should be" : "OTHER THAN THEY SHOULD BE");
     differences += !same;
 }
 
@@ -63,6 +63,10 @@ static void write_and_read(uint8_t *bytes, size_t room)
 
     expect("read of 24 bytes: refused", pelohuaki_read_question(bytes, sizeof wire - 1, &held, &place), PELOHUAKI_BYTES_END);
     expect("  place", place, 21);
+    bytes[14] = 0x10; /* the coefficient of y, at byte 13, is 4,097 */
+    expect("read of 5x + 4097y = 3: refused", pelohuaki_read_question(bytes, sizeof wire, &held, &place), PELOHUAKI_COEFFICIENT_BEYOND);
+    expect("  place, the number's", place, 13);
+    bytes[14] = 0x00;
     expect("read: refused", pelohuaki_read_question(bytes, sizeof wire, &held, &place), 0);
     expect("  n", held.n, question.n);
     expect_cells("  codes", held.codes, question.codes, sizeof held.codes);

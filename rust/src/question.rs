@@ -127,9 +127,11 @@ impl Question {
 /// assert_eq!(question.coefficients[0], [5, 1, 0, 0, 0, 0]);
 /// assert_eq!(question.constants[0], 3);
 ///
-/// // 4,097 is beyond a coefficient's limit. The record that has it starts at byte 5.
-/// bytes[9..13].copy_from_slice(&4_097i32.to_le_bytes());
-/// assert_eq!(read(&bytes), Err(Refusal { reason: Reason::BeyondLimit, place: 5 }));
+/// // 4,097 is beyond a coefficient's limit, and is refused at its own first byte.
+/// bytes[13..17].copy_from_slice(&4_097i32.to_le_bytes());
+/// let refusal = read(&bytes).unwrap_err();
+/// assert_eq!(refusal, Refusal { reason: Reason::Coefficient, place: 13 });
+/// assert_eq!(refusal.to_string(), "refused 12 at 13: a coefficient beyond its limit");
 /// # Ok::<(), Refusal>(())
 /// ```
 pub fn read(bytes: &[u8]) -> Result<Question, Refusal> {
@@ -166,10 +168,13 @@ pub fn read(bytes: &[u8]) -> Result<Question, Refusal> {
 ///
 /// assert_eq!(write(&question, &mut buffer[..20]).unwrap_err().reason, Reason::Short);
 ///
-/// // Node 1 is left over.
+/// // Node 1 is left over. Node 0, the equation, is checked before it.
 /// question.codes[1] = Question::NOT;
 /// let refusal = write(&question, &mut buffer).unwrap_err();
 /// assert_eq!((refusal.reason, refusal.place), (Reason::LeftOver, 1));
+/// question.constants[0] = Question::CONSTANT + 1;
+/// let refusal = write(&question, &mut buffer).unwrap_err();
+/// assert_eq!((refusal.reason, refusal.place), (Reason::Constant, 0));
 /// ```
 pub fn write(question: &Question, buffer: &mut [u8]) -> Result<usize, Refusal> {
     let mut told = [0; 2];

@@ -1,7 +1,7 @@
 use std::error::Error;
 use std::fmt;
 
-/// Why a call is refused: the eleven reasons, by their numbers.
+/// Why a call is refused: the thirteen reasons, by their numbers.
 #[derive(Clone, Copy, Debug, PartialEq, Eq, PartialOrd, Ord, Hash)]
 #[repr(u8)]
 pub enum Reason {
@@ -11,7 +11,7 @@ pub enum Reason {
     NotDue = 2,
     /// 3: a body of the wrong length.
     WrongLength = 3,
-    /// 4: n, a variable's number, a coefficient or a constant is beyond its limit.
+    /// 4: n or a variable's number is beyond its limit.
     BeyondLimit = 4,
     /// 5: too many nodes or atoms, or too deep.
     TooMany = 5,
@@ -27,11 +27,15 @@ pub enum Reason {
     Letter = 10,
     /// 11: a malformed table.
     Table = 11,
+    /// 12: a coefficient is beyond its limit.
+    Coefficient = 12,
+    /// 13: a constant is beyond its limit.
+    Constant = 13,
 }
 
 impl Reason {
     /// Every reason, in the order of the numbers.
-    pub const ALL: [Reason; 11] = [
+    pub const ALL: [Reason; 13] = [
         Reason::Cut,
         Reason::NotDue,
         Reason::WrongLength,
@@ -43,9 +47,11 @@ impl Reason {
         Reason::Values,
         Reason::Letter,
         Reason::Table,
+        Reason::Coefficient,
+        Reason::Constant,
     ];
 
-    /// The reason's number, from 1 to 11.
+    /// The reason's number, from 1 to 13.
     ///
     /// ```
     /// use pelohuaki::Reason;
@@ -59,8 +65,8 @@ impl Reason {
     ///
     /// ```
     /// use pelohuaki::Reason;
-    /// assert_eq!(Reason::from_number(11), Some(Reason::Table));
-    /// assert_eq!(Reason::from_number(12), None);
+    /// assert_eq!(Reason::from_number(12), Some(Reason::Coefficient));
+    /// assert_eq!(Reason::from_number(14), None);
     /// ```
     pub fn from_number(number: u8) -> Option<Reason> {
         Reason::ALL
@@ -75,9 +81,7 @@ impl fmt::Display for Reason {
             Reason::Cut => "bytes end too soon",
             Reason::NotDue => "kind or node code not due",
             Reason::WrongLength => "wrong body length",
-            Reason::BeyondLimit => {
-                "n, a variable's number, a coefficient or a constant beyond its limit"
-            }
+            Reason::BeyondLimit => "n or a variable's number beyond its limit",
             Reason::TooMany => "too many nodes or atoms, or too deep",
             Reason::LeftOver => "something left over",
             Reason::NoRoom => "no room",
@@ -87,6 +91,8 @@ impl fmt::Display for Reason {
             }
             Reason::Letter => "a letter of 2^n or more",
             Reason::Table => "a malformed table",
+            Reason::Coefficient => "a coefficient beyond its limit",
+            Reason::Constant => "a constant beyond its limit",
         })
     }
 }
@@ -104,13 +110,14 @@ impl fmt::Display for Reason {
 pub struct Refusal {
     /// Why.
     pub reason: Reason,
-    /// Where: in reading, the record's first byte, or the first byte left over; in writing, the
-    /// node's index, or 64 where only a number is left over; 0 where there is no place to name.
+    /// Where: in reading, the record's first byte, for 12 and 13 the number's own, or the first byte
+    /// left over; in writing, the node's index, or 64 where only a number is left over; 0 where
+    /// there is no place to name.
     pub place: usize,
 }
 
 impl Refusal {
-    /// The reason's number, from 1 to 11.
+    /// The reason's number, from 1 to 13.
     pub fn number(&self) -> u8 {
         self.reason.number()
     }
@@ -126,7 +133,7 @@ impl Refusal {
                 reason,
                 place: place as usize,
             }),
-            None => unreachable!("a call answers 0 to 11, and not {number}"),
+            None => unreachable!("a call answers 0 to 13, and not {number}"),
         }
     }
 }

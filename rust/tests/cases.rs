@@ -116,12 +116,18 @@ fn built() {
     }
 }
 
-/// Each of the eleven reasons, by a call that gives it.
+/// Each of the thirteen reasons, by a call that gives it.
 #[test]
 fn reasons() {
     let five = five();
     let number = |reason: Reason| reason.number();
-    assert_eq!(Reason::ALL.map(number), [1, 2, 3, 4, 5, 6, 7, 8, 9, 10, 11]);
+    assert_eq!(
+        Reason::ALL.map(number),
+        [1, 2, 3, 4, 5, 6, 7, 8, 9, 10, 11, 12, 13]
+    );
+    for reason in Reason::ALL {
+        assert_eq!(Reason::from_number(reason.number()), Some(reason));
+    }
 
     assert_eq!(read(&five[..20]), Err(refused(Reason::Cut, 5)));
     assert_eq!(read(&five[5..]), Err(refused(Reason::NotDue, 0)));
@@ -131,6 +137,29 @@ fn reasons() {
     let mut beyond = five.clone();
     beyond[4] = 7;
     assert_eq!(read(&beyond), Err(refused(Reason::BeyondLimit, 0)));
+    let far = |at: usize, number: i32| {
+        let mut far = five.clone();
+        far[at..at + 4].copy_from_slice(&number.to_le_bytes());
+        far
+    };
+    let (a, k) = (Question::COEFFICIENT, Question::CONSTANT);
+    assert_eq!(read(&far(9, a + 1)), Err(refused(Reason::Coefficient, 9)));
+    assert_eq!(
+        judge(&far(13, -a - 1), &[]),
+        Err(refused(Reason::Coefficient, 13))
+    );
+    assert_eq!(
+        Room::new(9).decide(&far(17, k + 1)),
+        Err(refused(Reason::Constant, 17))
+    );
+    assert_eq!(
+        Table::build(&far(17, -k - 1), 9),
+        Err(refused(Reason::Constant, 17))
+    );
+    let mut both = question(2, &[NOT, EQUATION], &[&[5, a + 1, k + 1]]);
+    assert_eq!(both.to_bytes(), Err(refused(Reason::Coefficient, 1)));
+    both.coefficients[0][1] = a;
+    assert_eq!(both.to_bytes(), Err(refused(Reason::Constant, 1)));
     let deep = question(1, &[[NOT; 16].as_slice(), &[EQUATION]].concat(), &[&[1, 0]]);
     assert_eq!(deep.to_bytes(), Err(refused(Reason::TooMany, 16)));
     let over = [&five[..], &[0]].concat();

@@ -32,7 +32,7 @@ pub const SHORT: u64 = 4;
 
 pub const BUILT: u64 = 5;
 
-const SPOILT: u64 = 6;
+const SPOILT: u64 = u64::MAX;
 
 // An answer by numbers: the states and, for found and short, the letters; for refused the refusal's number and its place.
 pub struct Told {
@@ -113,7 +113,16 @@ fn rows_filled(cells: &[u16], rows: usize, width: usize) -> bool {
     cells_filled(cells, cells_of(rows, width), CELL_MARK)
 }
 
-// What a call of deciding answers in areas that hold marks, by the entries of a key row.
+// What a call of deciding answers.
+pub fn deciding(bytes: &[u8], keys: &mut [i32], path: &mut [u16], word: &mut [u8]) -> Told {
+    decided_as(decide::decide(bytes, keys, path, word))
+}
+
+pub fn building(bytes: &[u8], keys: &mut [i32], table: &mut [u16]) -> Told {
+    built_as(build::build(bytes, keys, table))
+}
+
+// The same in areas that hold marks, by the entries of a key row; spoilt where other cells than the answer's are filled.
 pub fn decided(
     bytes: &[u8],
     m: usize,
@@ -121,7 +130,7 @@ pub fn decided(
     path: &mut [u16],
     word: &mut [u8],
 ) -> Told {
-    let answer = decided_as(decide::decide(bytes, keys, path, word));
+    let answer = deciding(bytes, keys, path, word);
     let rows = rows_of(answer);
     let filled = keys_filled(keys, rows, m) & rows_filled(path, rows, 2);
     where_filled(
@@ -132,7 +141,7 @@ pub fn decided(
 
 // The same of building, by the cells of a table's row too.
 pub fn built(bytes: &[u8], m: usize, width: usize, keys: &mut [i32], table: &mut [u16]) -> Told {
-    let answer = built_as(build::build(bytes, keys, table));
+    let answer = building(bytes, keys, table);
     let filled = keys_filled(keys, rows_of(answer), m);
     where_filled(
         filled & rows_filled(table, table_rows_of(answer), width),

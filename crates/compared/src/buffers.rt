@@ -4,7 +4,7 @@ use scope::Question;
 // What every cell of a key area, of a path area or a table, and of a buffer of bytes holds before the call: no such entry and no such state is reached.
 pub const KEY_MARK: i32 = 1_717_986_918;
 
-pub const CELL_MARK: u16 = 42_405;
+pub const CELL_MARK: u16 = 65_535;
 
 pub const BYTE_MARK: u8 = 165;
 

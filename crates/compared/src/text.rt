@@ -1,9 +1,9 @@
 // The words of a text, by the mark between them.
 use crate::buffers::stretch;
 
-// Where a mark stands next from a place on, or the text's length.
-fn stop(text: &[u8], at: usize, mark: u8) -> usize {
-    let mut i = at;
+// Where a mark stands first in a text, or the text's length.
+fn stop(text: &[u8], mark: u8) -> usize {
+    let mut i = 0;
     while i < text.len() {
         if text[i] == mark {
             return i;
@@ -26,8 +26,13 @@ fn word_start(text: &[u8], k: usize, mark: u8) -> usize {
     i
 }
 
+// A text from its word number k on; the empty one where there is none.
+pub fn rest<'a>(text: &'a [u8], k: usize, mark: u8) -> &'a [u8] {
+    stretch(text, word_start(text, k, mark), text.len())
+}
+
 // The word number k of a text; the empty one where there is none.
 pub fn word<'a>(text: &'a [u8], k: usize, mark: u8) -> &'a [u8] {
-    let start = word_start(text, k, mark);
-    stretch(text, start, stop(text, start, mark))
+    let from = rest(text, k, mark);
+    stretch(from, 0, stop(from, mark))
 }

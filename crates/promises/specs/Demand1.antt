@@ -2,11 +2,11 @@
 --
 -- "Any question, table, word or value lent to it gets an answer, and nothing is assumed to have been looked at before." No call has a
 -- `requires` (Tied), and each is proved to end. `Octets` and `Sized` are what the code's types say of every value: bytes below 256, arrays of their lengths.
-use mathlib.Core.Path.{_≡_, refl, sym, ap, _∙_, subst}
+use mathlib.Core.Path.{_≡_, refl, sym, ap, _∙_}
 use mathlib.Core.Logic.{_↔_, _⊎_, inl, inr, ⊎-elim, _≢_, Iff·trans}
-use mathlib.Core.Bool.{Bool, true, false}
+use mathlib.Core.Bool.{Bool, true, false, cond}
 use mathlib.Core.Option.{Option, none, some}
-use mathlib.Core.List.{List, [], _∷_, _++_}
+use mathlib.Core.List.{List, [], _∷_}
 use Prim.Native.Nat.{ℕ, _+_, _-_, _≤_, _<_}
 use native.Mathlib.Omega.{arith}
 use lib.ListN.{length}
@@ -24,18 +24,21 @@ use Rattle.scope.specs.declared.DecideAnswer.{DecideAnswer}
 use Rattle.scope.specs.declared.BuildAnswer.{BuildAnswer}
 use Rattle.scope.specs.declared.SpellAnswer.{SpellAnswer}
 use Rattle.scope.specs.Whole.{atFront}
-use Rattle.scope.specs.Refusals.{BYTES-END, TOO-SHORT, VALUES, Check, check, refusal, firstRefusal, Progress, stopped, going, ended}
-use Rattle.scope.specs.Wire.{kindAt, lengthAt, headerThere, bodyThere, recordOr, recordAt, Reading, Ended, readFrom, readHeld, headChecks, nodeChecks, endChecks, recordChecks}
+use Rattle.scope.specs.Refusals.{BYTES-END, BEYOND-LIMIT, LEFT-OVER, TOO-SHORT, VALUES, COEFFICIENT-BEYOND, CONSTANT-BEYOND, check, refusal, firstRefusal, Progress, stopped, going, ended}
+use Rattle.scope.specs.Wire.{kindAt, lengthAt, headerThere, bodyThere, recordOr, recordAt, Reading, Ended, readFrom, readHeld, headChecks, nodeAt, coefficientsAt, constantAt, fieldChecks, nodeChecks, endChecks, recordChecks}
 use Rattle.scope.specs.Writing.{Walk, written, Wrote, fitted, wroteOf, wrote}
 use Rattle.scope.specs.Words.{Word, value, valueOr, spelt, spellChecks}
+use Rattle.scope.specs.Question.{isAtom}
 use Rattle.scope.specs.Tree.{questionBytes, trueFor, IsQuestion, IsHeld}
 use Rattle.scope.specs.Running.{saysYes, truthOf, truthOr, ran, runChecks}
 use Rattle.scope.specs.Judging.{judged}
 use Rattle.scope.specs.Deciding.{Decided, decided}
 use Rattle.scope.specs.Building.{Built, built}
-use Rattle.scope.specs.Sizes.{mostBytes}
+use Rattle.scope.specs.Sizes.{mostBytes, variablesFit}
 use Rattle.theory.specs.Wire.Buffers.{written-short}
-use Rattle.theory.specs.Wire.Checks.{Passed, none-iff-passed, FirstFailing, some-iff-failing}
+use Rattle.theory.specs.Wire.Checks.{Passed, none-iff-passed, FirstFailing, some-iff-failing, EveryNumber, failing-numbered}
+use Rattle.theory.specs.Wire.Fields.{fields-numbered}
+use Rattle.theory.specs.Wire.WhichNumber.{StoppedByNumber, number-stopped-iff, StoppedByVariables, variables-stopped-iff, RefusedByNumber, number-refused-iff, variables-refused-iff}
 use Rattle.theory.specs.Wire.Stopped.{StoppedAt, at-head, at-node, at-end, stopped-iff, never-going, LeftBytes}
 use Rattle.theory.specs.Wire.Answers.{refused-iff}
 use Rattle.theory.specs.Wire.WritingStopped.{RefusedAt, written-stopped-iff, never-half-written}
@@ -140,43 +143,52 @@ module _ (bytes : List ℕ) (at : ℕ) where
       said (going s) x e = absurd (never-going bytes at s x)
       said (ended d) x e = let z : _≡_ {A = ℕ} 0 1 = cc in absurd (omega arith)
 
--- the number is one from 1 to 6
-abbrev Numbers : List Check → Type 0
-Numbers [] = Unit {0}
-Numbers (c ∷ cs) = ((1 ≤ c .number) × (c .number ≤ 6)) × Numbers cs
+-- the number is one from 1 to 6, or 12 or 13
+abbrev OfQuestion : ℕ → Type 0
+OfQuestion number = ((1 ≤ number) × (number ≤ 6)) ⊎ ((COEFFICIENT-BEYOND ≤ number) × (number ≤ CONSTANT-BEYOND))
 
-numbers-at : (before : List Check) (c : Check) (after : List Check) → Numbers (before ++ (c ∷ after)) → (1 ≤ c .number) × (c .number ≤ 6)
-numbers-at [] c after n = n .0
-numbers-at (b ∷ before) c after n = numbers-at before c after (n .1)
-
-failing-number : (cs : List Check) (ρ : Refusal) → Numbers cs → FirstFailing cs ρ → (1 ≤ ρ .number) × (ρ .number ≤ 6)
-failing-number cs ρ n f = rw (f .told) (numbers-at (f .before) (f .failing) (f .after) (subst Numbers (f .order) n))
-
-pub breaks-number : (bytes : List ℕ) (ρ : Refusal) → Breaks bytes ρ → (1 ≤ ρ .number) × (ρ .number ≤ 6)
-breaks-number bytes ρ = ⊎-elim stops (λ l. rw (l .told) six)
+pub breaks-number : (bytes : List ℕ) (ρ : Refusal) → Breaks bytes ρ → OfQuestion (ρ .number)
+breaks-number bytes ρ = ⊎-elim stops (λ l. rw (l .told) (low LEFT-OVER (omega arith) (omega arith)))
   where
-    one : (1 ≤ 1) × (1 ≤ 6)
-    one = (omega arith, omega arith)
+    low : (number : ℕ) → 1 ≤ number → number ≤ 6 → OfQuestion number
+    low number h k = inl (h, k)
 
-    two : (1 ≤ 2) × (2 ≤ 6)
-    two = (omega arith, omega arith)
+    one : OfQuestion 1
+    one = low 1 (omega arith) (omega arith)
 
-    three : (1 ≤ 3) × (3 ≤ 6)
-    three = (omega arith, omega arith)
+    two : OfQuestion 2
+    two = low 2 (omega arith) (omega arith)
 
-    four : (1 ≤ 4) × (4 ≤ 6)
-    four = (omega arith, omega arith)
+    three : OfQuestion 3
+    three = low 3 (omega arith) (omega arith)
 
-    five : (1 ≤ 5) × (5 ≤ 6)
-    five = (omega arith, omega arith)
+    four : OfQuestion 4
+    four = low 4 (omega arith) (omega arith)
 
-    six : (1 ≤ 6) × (6 ≤ 6)
-    six = (omega arith, omega arith)
+    five : OfQuestion 5
+    five = low 5 (omega arith) (omega arith)
 
-    stops : StoppedAt bytes 0 ρ → (1 ≤ ρ .number) × (ρ .number ≤ 6)
-    stops (at-head f) = failing-number (headChecks bytes 0) ρ (one, (two, (three, (one, (four, tt))))) f
-    stops (at-node s depth due h d f) = failing-number (nodeChecks bytes depth s) ρ (one, (two, (three, (one, (five, (five, (five, (four, tt)))))))) f
-    stops (at-end s h d f) = failing-number (endChecks bytes (s .place)) ρ (one, (two, (three, (one, tt)))) f
+    numbers : (t : Bool) (place : ℕ) (cs : List ℤ) (k : ℤ) → EveryNumber OfQuestion (cond t (fieldChecks place 4 cs k) [])
+    numbers true place cs k = fields-numbered OfQuestion place 4 cs k (inr (omega arith, omega arith)) (inr (omega arith, omega arith))
+    numbers false place cs k = tt
+
+    stops : StoppedAt bytes 0 ρ → OfQuestion (ρ .number)
+    stops (at-head f) = failing-numbered OfQuestion (headChecks bytes 0) ρ (one, (two, (three, (one, (four, tt))))) f
+    stops (at-node s depth due h d f) =
+        failing-numbered OfQuestion (nodeChecks bytes depth s) ρ
+        (one, (two, (three, (one, (five, (five, (five, numbers (isAtom (nodeAt bytes s)) (s .place + 4) (coefficientsAt bytes s) (constantAt bytes s)))))))) f
+    stops (at-end s h d f) = failing-numbered OfQuestion (endChecks bytes (s .place)) ρ (one, (two, (three, (one, tt)))) f
+
+-- ---- "Tell us which number is wrong" (document 02, E1)
+
+module _ (bytes : List ℕ) (ρ : Refusal) where
+  -- 12 or 13 exactly if an atom is reached one of whose numbers is beyond its limit: the first of them in field order, at its first byte
+  pub breaks-numbers : (Breaks bytes ρ × (COEFFICIENT-BEYOND ≤ ρ .number)) ↔ StoppedByNumber bytes 0 ρ
+  breaks-numbers = (λ p. ⊎-elim (λ s. number-stopped-iff bytes 0 ρ .0 (s, p .1)) (λ l. absurd (omega (arith, p .1, ap (λ (r : Refusal). r .number) (l .told)))) (p .0), λ n. let s = number-stopped-iff bytes 0 ρ .1 n in (inl (s .0), s .1))
+
+  -- and 4 exactly for n, at 0
+  pub breaks-variables : (Breaks bytes ρ × (ρ .number ≡ BEYOND-LIMIT)) ↔ StoppedByVariables bytes 0 ρ
+  breaks-variables = (λ p. ⊎-elim (λ s. variables-stopped-iff bytes 0 ρ .0 (s, p .1)) (λ l. absurd (omega (arith, p .1, ap (λ (r : Refusal). r .number) (l .told)))) (p .0), λ v. let s = variables-stopped-iff bytes 0 ρ .1 v in (inl (s .0), s .1))
 
 -- deciding
 module _ (bytes : List ℕ) (keys : List ℤ) (path word : List ℕ) where
@@ -321,6 +333,20 @@ module _ (q : Question) (buffer : List ℕ) where
 
   pub write-refused : {o : Wrote} → WriteOutcome q buffer o → (ρ : Refusal) → (o .answer ≡ WriteAnswer.Refused ρ) ↔ (RefusedAt q ρ ⊎ TooLong q buffer ρ)
   write-refused out ρ = rw (out .answer) (wrote-refused-iff ρ)
+
+  -- 12 or 13 exactly if an atom is reached one of whose numbers is beyond its limit: the first of them in field order, at the node
+  pub write-numbers : {o : Wrote} → WriteOutcome q buffer o → (ρ : Refusal) → ((o .answer ≡ WriteAnswer.Refused ρ) × (COEFFICIENT-BEYOND ≤ ρ .number)) ↔ RefusedByNumber q ρ
+  write-numbers out ρ = (
+    λ p. ⊎-elim (λ s. number-refused-iff q ρ .0 (s, p .1)) (λ t. absurd (omega (arith, p .1, ap (λ (r : Refusal). r .number) (t .told)))) (write-refused out ρ .0 (p .0)),
+    λ n. let s = number-refused-iff q ρ .1 n in (write-refused out ρ .1 (inl (s .0)), s .1),
+  )
+
+  -- and 4 exactly for n, at 0
+  pub write-variables : {o : Wrote} → WriteOutcome q buffer o → (ρ : Refusal) → ((o .answer ≡ WriteAnswer.Refused ρ) × (ρ .number ≡ BEYOND-LIMIT)) ↔ ((variablesFit (q .n) ≡ false) × (ρ ≡ refusal BEYOND-LIMIT 0))
+  write-variables out ρ = (
+    λ p. ⊎-elim (λ s. variables-refused-iff q ρ .0 (s, p .1)) (λ t. absurd (omega (arith, p .1, ap (λ (r : Refusal). r .number) (t .told)))) (write-refused out ρ .0 (p .0)),
+    λ v. let s = variables-refused-iff q ρ .1 v in (write-refused out ρ .1 (inl (s .0)), s .1),
+  )
 
   -- a buffer of `mostBytes`, 489, is long enough for every question: writing is then refused for what the held question breaks alone
   pub bytes-suffice : Sized q → mostBytes ≤ length buffer → {o : Wrote} → WriteOutcome q buffer o → (ρ : Refusal) → (o .answer ≡ WriteAnswer.Refused ρ) ↔ RefusedAt q ρ

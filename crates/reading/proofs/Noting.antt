@@ -36,7 +36,7 @@ noted-counts false x cs k nodes atoms due q = refl
 
 -- ---- a node read
 
-not-node : {A : Type 0} (r : Refusal) (code : ℕ) → NodeAnswer.Refused r ≡ NodeAnswer.Node code → A
+pub not-node : {A : Type 0} (r : Refusal) (code : ℕ) → NodeAnswer.Refused r ≡ NodeAnswer.Node code → A
 not-node r code e = let z : _≡_ {A = ℕ} 0 1 = cc in absurd (omega arith)
 
 module _ (b : List ℕ) (depth : ℕ) (s : Reading) (a : NodeAnswer) (said : a ≡ nodeAnswer b depth s) (after : Question) where

@@ -8,16 +8,16 @@ use native.Mathlib.Omega.{arith}
 use lib.ListN.{length}
 use lib.Dec.{T, eqb, leb→le, ltb→lt}
 use Rattle.scope.specs.declared.Refusal.{Refusal}
-use Rattle.scope.specs.Sizes.{mostNodes, mostDepth, numbersFit}
+use Rattle.scope.specs.Sizes.{mostNodes, mostDepth}
 use Rattle.scope.specs.Question.{Node, unused, atom, equation, atMost, nodeOf, codeOf, isUnused, isAtom}
-use Rattle.scope.specs.Refusals.{BEYOND-LIMIT, TOO-MANY, Check, refusal, firstRefusal}
-use Rattle.scope.specs.Wire.{Reading, lengthAt, bodyThere, frameChecks, bodyLength, nodeAt, coefficientsAt, constantAt, nodeChecks}
+use Rattle.scope.specs.Refusals.{TOO-MANY, Check, refusal, firstRefusal}
+use Rattle.scope.specs.Wire.{Reading, lengthAt, bodyThere, frameChecks, fieldChecks, bodyLength, nodeAt, coefficientsAt, constantAt, nodeChecks}
 use Rattle.theory.specs.Wire.Checks.{none-passed}
 use Rattle.records.specs.declared.nodes.NodeAnswer.{NodeAnswer}
 use Rattle.records.specs.Formula.{sizeFits}
-use Rattle.records.specs.Parts.{nodeOr}
+use Rattle.records.specs.Parts.{codeOr, nodeOr}
 use Rattle.records.proofs.Codes.{Coded, coded}
-use Rattle.records.proofs.Checks.{no-room, some-room, too-large, small-enough, numbers-plain, numbers-fit, numbers-beyond, node-none, node-some}
+use Rattle.records.proofs.Checks.{no-room, some-room, too-large, small-enough, no-numbers, atom-numbers, node-none, node-some}
 use Rattle.reading.specs.Steps.{nodeHere, nodeFrame, nodeAnswer}
 use Rattle.reading.proofs.Framed.{frame-refused, frame-passed, frame-within}
 
@@ -115,12 +115,9 @@ module _ (b : List ℕ) (depth : ℕ) (s : Reading) where
       module _ (e : sizeFits (isAtom x) (s .shape .atoms) depth ≡ true) where
         pub node-plain : isAtom x ≡ false → framed ≡ nodeAnswer b depth s
         node-plain a = ap answer (node-framed b (s .place) (s .question .n) code k .0)
-            ∙ sym (ap answer (later _ ∙ some-room (s .place) (s .shape) _ h ∙ small-enough (s .place) (s .shape) _ x depth e ∙ numbers-plain (s .place) x (coefficientsAt b s) (constantAt b s) a))
+            ∙ sym (ap answer (later _ ∙ some-room (s .place) (s .shape) _ h ∙ small-enough (s .place) (s .shape) _ x depth e ∙ no-numbers (s .place + 4) 4 x (coefficientsAt b s) (constantAt b s) a))
 
-        module _ (a : isAtom x ≡ true) where
-          pub node-atom : numbersFit (coefficientsAt b s) (constantAt b s) ≡ true → framed ≡ nodeAnswer b depth s
-          node-atom f = ap answer (node-framed b (s .place) (s .question .n) code k .0)
-              ∙ sym (ap answer (later _ ∙ some-room (s .place) (s .shape) _ h ∙ small-enough (s .place) (s .shape) _ x depth e ∙ numbers-fit (s .place) x (coefficientsAt b s) (constantAt b s) a f))
-
-          pub node-beyond : numbersFit (coefficientsAt b s) (constantAt b s) ≡ false → NodeAnswer.Refused (refusal BEYOND-LIMIT (s .place)) ≡ nodeAnswer b depth s
-          node-beyond f = sym (ap answer (later _ ∙ some-room (s .place) (s .shape) _ h ∙ small-enough (s .place) (s .shape) _ x depth e ∙ numbers-beyond (s .place) x (coefficientsAt b s) (constantAt b s) a f))
+        pub node-atom : isAtom x ≡ true → (r : NodeAnswer) → r ≡ codeOr (firstRefusal (fieldChecks (s .place + 4) 4 (coefficientsAt b s) (constantAt b s))) code → r ≡ nodeAnswer b depth s
+        node-atom a r f = f
+            ∙ ap (codeOr (firstRefusal (fieldChecks (s .place + 4) 4 (coefficientsAt b s) (constantAt b s)))) (node-framed b (s .place) (s .question .n) code k .1)
+            ∙ sym (ap answer (later _ ∙ some-room (s .place) (s .shape) _ h ∙ small-enough (s .place) (s .shape) _ x depth e ∙ atom-numbers (s .place + 4) 4 x (coefficientsAt b s) (constantAt b s) a))

@@ -84,8 +84,5 @@ pub fn node_at(
     if !atom {
         return frame;
     }
-    if take_atom(bytes, at + 4, n, atoms, coefficients, constants) {
-        return frame;
-    }
-    refused(Refusal::BEYOND_LIMIT, at)
+    take_atom(bytes, at, n, code, atoms, coefficients, constants)
 }

@@ -10,10 +10,10 @@ use borrow.Author.Tests.{le-ltb, lt-ltb}
 use lib.Dec.{T, leb, ltb, ltb→lt}
 use lib.IntN.{ℤ}
 use Rattle.scope.specs.declared.Refusal.{Refusal}
-use Rattle.scope.specs.Sizes.{mostNodes, mostAtoms, mostDepth, numbersFit}
+use Rattle.scope.specs.Sizes.{mostNodes, mostAtoms, mostDepth}
 use Rattle.scope.specs.Question.{Node, codeOf, isAtom}
-use Rattle.scope.specs.Refusals.{BEYOND-LIMIT, TOO-MANY, Check, check, refusal, firstRefusal}
-use Rattle.scope.specs.Wire.{Shape, placeCheck, sizeChecks, atomCheck}
+use Rattle.scope.specs.Refusals.{TOO-MANY, Check, check, refusal, firstRefusal}
+use Rattle.scope.specs.Wire.{Shape, placeCheck, sizeChecks, fieldChecks, atomChecks}
 use Rattle.theory.specs.Wire.Checks.{was-asked, failing-at}
 use Rattle.records.specs.declared.nodes.NodeAnswer.{NodeAnswer}
 use Rattle.records.specs.Formula.{sizeFits}
@@ -73,19 +73,13 @@ sized-few t atoms depth e a = few-atoms t atoms (true-T (not t || ltb atoms most
 
 -- ---- the numbers of an atom
 
-module _ (place : ℕ) (x : Node) (coefficients : List ℤ) (constant : ℤ) where
-  pub numbers-plain : isAtom x ≡ false → firstRefusal (atomCheck place x coefficients constant ∷ []) ≡ none
+module _ (place apart : ℕ) (x : Node) (coefficients : List ℤ) (constant : ℤ) where
+  pub no-numbers : isAtom x ≡ false → firstRefusal (atomChecks place apart x coefficients constant) ≡ none
   unfolding firstRefusal
-  numbers-plain a = rw a
+  no-numbers a = rw a
 
-  module _ (a : isAtom x ≡ true) where
-    pub numbers-fit : numbersFit coefficients constant ≡ true → firstRefusal (atomCheck place x coefficients constant ∷ []) ≡ none
-    unfolding firstRefusal
-    numbers-fit f = rw (a, f)
-
-    pub numbers-beyond : numbersFit coefficients constant ≡ false → firstRefusal (atomCheck place x coefficients constant ∷ []) ≡ some (refusal BEYOND-LIMIT place)
-    unfolding firstRefusal
-    numbers-beyond f = rw (a, f)
+  pub atom-numbers : isAtom x ≡ true → firstRefusal (atomChecks place apart x coefficients constant) ≡ firstRefusal (fieldChecks place apart coefficients constant)
+  atom-numbers a = rw a
 
 -- ---- what was answered of a node says what was refused
 

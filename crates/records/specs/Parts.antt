@@ -21,7 +21,10 @@ pub record AtomHeld (n : ℕ) (coefficients constants : List ℤ) (atom : ℕ) :
   pub coefficients-full : length coefficients ≡ mostVariables * mostAtoms
   pub constants-full : length constants ≡ mostAtoms
 
--- the node's code, where nothing is refused
+-- the code, where nothing is refused
+abbrev pub codeOr : Option Refusal → ℕ → NodeAnswer
+codeOr none code = NodeAnswer.Node code
+codeOr (some r) code = NodeAnswer.Refused r
+
 abbrev pub nodeOr : Option Refusal → Node → NodeAnswer
-nodeOr none x = NodeAnswer.Node (codeOf x)
-nodeOr (some r) x = NodeAnswer.Refused r
+nodeOr o x = codeOr o (codeOf x)

@@ -17,10 +17,13 @@ use Rattle.scope.specs.Tree.{Tree}
 use Rattle.scope.specs.Refusals.{refusal}
 use Rattle.scope.specs.Outcomes.{Outcome, held, wroteBytes, truth, spelling, count, tree, holding, Line, line, allGiven, wanted, marked, reads, writes, judges, spells, runs, bounds, asks, fitsLimits, saysTree, running}
 
--- ---- bytes of questions over one variable
+-- ---- bytes of questions, over one variable where nothing else is said
+
+abbrev headOf : ℕ → List ℕ
+headOf n = 1 ∷ 0 ∷ 1 ∷ 0 ∷ n ∷ []
 
 abbrev head : List ℕ
-head = 1 ∷ 0 ∷ 1 ∷ 0 ∷ 1 ∷ []
+head = headOf 1
 
 abbrev nots : ℕ → List ℕ
 nots k = joined (replicate k (0 ∷ 0 ∷ 0x20 ∷ 0 ∷ []))
@@ -42,6 +45,16 @@ atomOf c d sign = 8 ∷ 0 ∷ 0x10 ∷ 0 ∷ c ∷ d ∷ sign ∷ sign ∷ 0 ∷
 -- the constant is three bytes b c d, or their negative by a byte of ones; the coefficient is 0
 abbrev atomAt : ℕ → ℕ → ℕ → ℕ → List ℕ
 atomAt b c d sign = 8 ∷ 0 ∷ 0x11 ∷ 0 ∷ 0 ∷ 0 ∷ 0 ∷ 0 ∷ b ∷ c ∷ d ∷ sign ∷ []
+
+-- of more variables: a number of four bytes is 1 or 2^24
+abbrev within : List ℕ
+within = 1 ∷ 0 ∷ 0 ∷ 0 ∷ []
+
+abbrev beyond : List ℕ
+beyond = 0 ∷ 0 ∷ 0 ∷ 1 ∷ []
+
+abbrev atomIn : List (List ℕ) → List ℕ → List ℕ
+atomIn coefficients constant = let body = joined coefficients ++ constant in length body ∷ 0 ∷ 0x11 ∷ 0 ∷ body
 
 abbrev end : List ℕ
 end = 0 ∷ 0 ∷ 0xFF ∷ 0 ∷ []
@@ -124,20 +137,28 @@ edges =
     line (reads (head ++ (9 ∷ 0 ∷ 0x10 ∷ 0 ∷ []))) (refusedAt 3 5) ∷
     line (reads (head ++ (nots 16 ++ (8 ∷ 0 ∷ 0x10 ∷ 0 ∷ [])))) (refusedAt 1 69) ∷
     line (reads (head ++ (nots 16 ++ atomOf 0x88 0x13 0))) (refusedAt 5 69) ∷
-    line (reads (head ++ (nots 15 ++ atomOf 0x88 0x13 0))) (refusedAt 4 65) ∷
+    line (reads (head ++ (nots 15 ++ atomOf 0x88 0x13 0))) (refusedAt 12 69) ∷
     line (reads (head ++ end)) (refusedAt 2 5) ∷
     -- the ninth atom, and the 65th node
     line (reads (head ++ (ands 8 ++ (atoms 8 ++ atomOf 0x88 0x13 0)))) (refusedAt 5 133) ∷
     line (reads (head ++ (wide 9 ++ atom))) (refusedAt 5 293) ∷
     -- the limits of a coefficient and of a constant, and the first numbers beyond them
     line (reads (head ++ (atomOf 0 0x10 0 ++ end))) (accepted (over 1 (1 ∷ []) (pos 4096 ∷ []) [])) ∷
-    line (reads (head ++ (atomOf 1 0x10 0 ++ end))) (refusedAt 4 5) ∷
+    line (reads (head ++ (atomOf 1 0x10 0 ++ end))) (refusedAt 12 9) ∷
     line (reads (head ++ (atomOf 0 0xF0 255 ++ end))) (accepted (over 1 (1 ∷ []) (negsuc 4095 ∷ []) [])) ∷
-    line (reads (head ++ (atomOf 255 0xEF 255 ++ end))) (refusedAt 4 5) ∷
+    line (reads (head ++ (atomOf 255 0xEF 255 ++ end))) (refusedAt 12 9) ∷
     line (reads (head ++ (atomAt 0x40 0x42 0x0F 0 ++ end))) (accepted (over 1 (2 ∷ []) [] (pos 1000000 ∷ []))) ∷
-    line (reads (head ++ (atomAt 0x41 0x42 0x0F 0 ++ end))) (refusedAt 4 5) ∷
+    line (reads (head ++ (atomAt 0x41 0x42 0x0F 0 ++ end))) (refusedAt 13 13) ∷
     line (reads (head ++ (atomAt 0xC0 0xBD 0xF0 255 ++ end))) (accepted (over 1 (2 ∷ []) [] (negsuc 999999 ∷ []))) ∷
-    line (reads (head ++ (atomAt 0xBF 0xBD 0xF0 255 ++ end))) (refusedAt 4 5) ∷
+    line (reads (head ++ (atomAt 0xBF 0xBD 0xF0 255 ++ end))) (refusedAt 13 13) ∷
+    -- of an atom's numbers beyond their limits the first in field order, at its first byte; of two atoms the first
+    line (reads (headOf 3 ++ atomIn (within ∷ beyond ∷ beyond ∷ []) within)) (refusedAt 12 13) ∷
+    line (reads (headOf 3 ++ atomIn (within ∷ within ∷ beyond ∷ []) beyond)) (refusedAt 12 17) ∷
+    line (reads (headOf 3 ++ atomIn (within ∷ within ∷ within ∷ []) beyond)) (refusedAt 13 21) ∷
+    line (reads (headOf 6 ++ atomIn (replicate 5 within ++ (beyond ∷ [])) within)) (refusedAt 12 29) ∷
+    line (reads (headOf 6 ++ atomIn (replicate 6 within) beyond)) (refusedAt 13 33) ∷
+    line (reads (head ++ (ands 1 ++ (atomIn (within ∷ []) beyond ++ atomIn (beyond ∷ []) within)))) (refusedAt 13 17) ∷
+    line (reads (head ++ (ands 1 ++ (atom ++ atomIn (beyond ∷ []) beyond)))) (refusedAt 12 25) ∷
     -- the end
     line (reads (head ++ atom)) (refusedAt 1 17) ∷
     line (reads (head ++ atoms 2)) (refusedAt 2 17) ∷
@@ -151,13 +172,17 @@ edges =
     line (writes (over 1 (replicate 16 3 ++ (1 ∷ [])) (pos 4097 ∷ []) []) 4) (unwritten 5 16) ∷
     line (writes (over 1 (replicate 8 4 ++ replicate 9 1) (replicate 48 (pos 0)) []) 4) (unwritten 5 16) ∷
     line (writes (over 1 ((4 ∷ 4 ∷ 4 ∷ []) ++ (part ++ (part ++ (4 ∷ (part ++ (part ++ replicate 8 3)))))) [] []) 4) (unwritten 5 64) ∷
-    line (writes (over 1 (4 ∷ 1 ∷ 1 ∷ 7 ∷ []) (replicate 6 (pos 0) ++ (pos 4097 ∷ [])) []) 4) (unwritten 4 2) ∷
+    line (writes (over 1 (4 ∷ 1 ∷ 1 ∷ 7 ∷ []) (replicate 6 (pos 0) ++ (pos 4097 ∷ [])) []) 4) (unwritten 12 2) ∷
+    line (writes (over 2 (4 ∷ 1 ∷ 2 ∷ 7 ∷ []) (replicate 7 (pos 0) ++ (negsuc 4096 ∷ [])) (pos 0 ∷ pos 1000001 ∷ [])) 4) (unwritten 12 2) ∷
+    line (writes (over 1 (4 ∷ 1 ∷ 2 ∷ []) (replicate 6 (pos 0) ++ (pos 4097 ∷ [])) (negsuc 1000000 ∷ [])) 4) (unwritten 13 1) ∷
+    line (writes (over 1 (1 ∷ []) (pos 4096 ∷ pos 4097 ∷ []) []) 4) (unwritten 6 64) ∷
     line (writes (over 1 (1 ∷ 0 ∷ 7 ∷ []) (pos 1 ∷ pos 1 ∷ []) []) 4) (unwritten 6 2) ∷
     line (writes (over 1 (1 ∷ []) (pos 1 ∷ pos 1 ∷ []) []) 4) (unwritten 6 64) ∷
     line (writes (over 1 (1 ∷ []) [] (pos 1 ∷ pos 1 ∷ [])) 4) (unwritten 6 64) ∷
     line (writes (over 1 (1 ∷ []) [] []) 4) (unwritten 8 0) ∷
     -- judging: the question first, then the number of values, then each value
     line (judges (head ++ end) []) (refusedTruth 2 5) ∷
+    line (judges (headOf 2 ++ (atomIn (within ∷ beyond ∷ []) within ++ end)) []) (refusedTruth 12 13) ∷
     line (judges (head ++ (atom ++ end)) []) (refusedTruth 9 0) ∷
     line (judges (head ++ (atom ++ end)) (1099511627776 ∷ [])) (refusedTruth 9 0) ∷
     line (judges (head ++ (atom ++ end)) (1099511627775 ∷ [])) (truth TruthAnswer.Yes) ∷

@@ -15,7 +15,7 @@ use Rattle.scope.specs.Whole.{all, allFrom, joined, atFront, half}
 use Rattle.scope.specs.Sizes.{numbersFit}
 use Rattle.scope.specs.Question.{nodesOf, coefficientsOf, constantOf, kindsOf, atomsFrom, atomsOf, atomCount}
 use Rattle.scope.specs.Refusals.{firstRefusal, onward}
-use Rattle.scope.specs.Wire.{numbersAt, recordAt, grown, headRead, noted, nodeRead, endRead, recordRead, readFrom, wholeRead, readHeld}
+use Rattle.scope.specs.Wire.{numbersAt, recordAt, grown, fieldChecks, headRead, noted, nodeRead, endRead, recordRead, readFrom, wholeRead, readHeld}
 use Rattle.scope.specs.Writing.{atomBody, nodeBytes, headWritten, nodeWritten, partWritten, codeChecks, numbersClear, leftOverChecks, endWritten, written, Wrote, wrote}
 use Rattle.scope.specs.Words.{digit, letterOf, valueFrom, value, valuesFrom, spelled, spelt}
 use Rattle.scope.specs.States.{cellOf, sameEntry, sumFrom, sumAt, startEntry, stepEntry, worth, startOf, stepOf, worthsOf, sameState, cellsOf, settled, formulaWorth, accepting, dot, holds, satisfied}
@@ -115,5 +115,5 @@ saysTree t values = holding (trueFor t values)
 
 -- what has to unfold for the definitions to run
 unfoldable pub running : Unit {0}
-unfolding all allFrom joined atFront numbersFit nodesOf coefficientsOf constantOf kindsOf atomsFrom atomsOf atomCount firstRefusal onward numbersAt recordAt grown headRead noted nodeRead endRead recordRead readFrom wholeRead readHeld atomBody nodeBytes headWritten nodeWritten partWritten codeChecks numbersClear leftOverChecks endWritten written wrote digit letterOf valueFrom value valuesFrom spelled spelt cellOf sameEntry sumFrom sumAt startEntry stepEntry worth startOf stepOf worthsOf sameState cellsOf settled formulaWorth accepting dot holds satisfied nodesIn atomsIn depthOf atomFits withinLimits treeBytes questionBytes rowOf trueFor positives negatives lowest highest entryCount product bound machineOf firstIf after startRow has addedIf tried triedAll expandedIf numbered wordWithin wordOf firstAccepting numberIf numberOf verdict decideRoom keyCells pathCells decidedQuestion decided nextStates tableRow tableCells buildRoom builtQuestion built tableFits rowAfter saysYes ran judgedQuestion judged
+unfolding all allFrom joined atFront numbersFit nodesOf coefficientsOf constantOf kindsOf atomsFrom atomsOf atomCount firstRefusal onward numbersAt recordAt grown fieldChecks headRead noted nodeRead endRead recordRead readFrom wholeRead readHeld atomBody nodeBytes headWritten nodeWritten partWritten codeChecks numbersClear leftOverChecks endWritten written wrote digit letterOf valueFrom value valuesFrom spelled spelt cellOf sameEntry sumFrom sumAt startEntry stepEntry worth startOf stepOf worthsOf sameState cellsOf settled formulaWorth accepting dot holds satisfied nodesIn atomsIn depthOf atomFits withinLimits treeBytes questionBytes rowOf trueFor positives negatives lowest highest entryCount product bound machineOf firstIf after startRow has addedIf tried triedAll expandedIf numbered wordWithin wordOf firstAccepting numberIf numberOf verdict decideRoom keyCells pathCells decidedQuestion decided nextStates tableRow tableCells buildRoom builtQuestion built tableFits rowAfter saysYes ran judgedQuestion judged
 running = tt

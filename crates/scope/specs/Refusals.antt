@@ -1,5 +1,5 @@
--- Document 01, "Refusal numbers": checks in their order, the first that fails gives the refusal; and, for each answer that is an
--- enum, the number, the place and the values that document 01 gives for each of its cases.
+-- Document 01, "Refusal numbers", with those of document 02, E1: checks in their order, the first that fails gives the refusal; and, for
+-- each answer that is an enum, the number, the place and the values that the documents give for each of its cases.
 use Prim.Native.Nat.{ℕ, zero, suc}
 use mathlib.Core.Bool.{Bool, true, false}
 use mathlib.Core.Option.{Option, none, some}
@@ -47,6 +47,12 @@ LETTER = 10
 
 abbrev pub TABLE : ℕ
 TABLE = 11
+
+abbrev pub COEFFICIENT-BEYOND : ℕ
+COEFFICIENT-BEYOND = 12
+
+abbrev pub CONSTANT-BEYOND : ℕ
+CONSTANT-BEYOND = 13
 
 -- ---- checks
 

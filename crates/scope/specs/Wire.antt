@@ -14,9 +14,9 @@ use Rattle.scope.specs.declared.Refusal.{Refusal}
 use Rattle.scope.specs.declared.RecordAnswer.{RecordAnswer}
 use Rattle.scope.specs.declared.ReadAnswer.{ReadAnswer}
 use Rattle.scope.specs.declared.Held.{Held}
-use Rattle.scope.specs.Sizes.{mostVariables, mostAtoms, mostNodes, mostDepth, variablesFit, numbersFit}
+use Rattle.scope.specs.Sizes.{mostVariables, mostAtoms, mostNodes, mostDepth, variablesFit, coefficientFits, constantFits}
 use Rattle.scope.specs.Question.{Node, atom, equation, atMost, unused, codeOf, isUnused, isAtom, parts, emptyQuestion}
-use Rattle.scope.specs.Refusals.{BYTES-END, NOT-DUE, BODY-LENGTH, BEYOND-LIMIT, TOO-MANY, LEFT-OVER, Check, check, refusal, firstRefusal, Progress, stopped, going, ended, orStopped, onward}
+use Rattle.scope.specs.Refusals.{BYTES-END, NOT-DUE, BODY-LENGTH, BEYOND-LIMIT, TOO-MANY, LEFT-OVER, COEFFICIENT-BEYOND, CONSTANT-BEYOND, Check, check, refusal, firstRefusal, Progress, stopped, going, ended, orStopped, onward}
 
 -- ---- little-endian numbers
 
@@ -123,9 +123,13 @@ placeCheck place s = check TOO-MANY place (ltb (s .nodes) mostNodes)
 abbrev pub sizeChecks : ℕ → Node → ℕ → Shape → List Check → List Check
 sizeChecks place x depth s later = check TOO-MANY place (not (isAtom x) || ltb (s .atoms) mostAtoms) ∷ check TOO-MANY place (leb depth mostDepth) ∷ later
 
--- an atom's numbers
-abbrev pub atomCheck : ℕ → Node → List ℤ → ℤ → Check
-atomCheck place x coefficients constant = check BEYOND-LIMIT place (not (isAtom x) || numbersFit coefficients constant)
+-- an atom's numbers in field order, the coefficients and then the constant: the first at `place`, each next one `apart` further on
+unfoldable pub fieldChecks : ℕ → ℕ → List ℤ → ℤ → List Check
+fieldChecks place apart [] constant = check CONSTANT-BEYOND place (constantFits constant) ∷ []
+fieldChecks place apart (a ∷ coefficients) constant = check COEFFICIENT-BEYOND place (coefficientFits a) ∷ fieldChecks (place + apart) apart coefficients constant
+
+abbrev pub atomChecks : ℕ → ℕ → Node → List ℤ → ℤ → List Check
+atomChecks place apart x coefficients constant = cond (isAtom x) (fieldChecks place apart coefficients constant) []
 
 -- ---- reading
 
@@ -179,7 +183,7 @@ coefficientsAt b s = numbersAt (s .question .n) b (s .place + 4)
 abbrev pub constantAt : List ℕ → Reading → ℤ
 constantAt b s = numberAt b (s .place + 4 + 4 * s .question .n)
 
--- a node, where a part is due at this depth and others after it
+-- a node, where a part is due at this depth and others after it: a number's place is its first byte
 abbrev pub nodeChecks : List ℕ → ℕ → Reading → List Check
 nodeChecks b depth s =
     let at = s .place in
@@ -187,8 +191,7 @@ nodeChecks b depth s =
     frameChecks b at (not (isUnused x)) (bodyLength (s .question .n) x)
     (placeCheck at (s .shape) ∷
     sizeChecks at x depth (s .shape)
-    (atomCheck at x (coefficientsAt b s) (constantAt b s) ∷
-    []))
+    (atomChecks (at + 4) 4 x (coefficientsAt b s) (constantAt b s)))
 
 abbrev pub afterNode : List ℕ → ℕ → List ℕ → Reading → Reading
 afterNode b depth due s = record {

@@ -13,7 +13,7 @@ use Rattle.scope.specs.Whole.{eqZ, allFrom, joined, atFront}
 use Rattle.scope.specs.Sizes.{mostVariables, mostNodes, variablesFit}
 use Rattle.scope.specs.Question.{Node, nodeOf, isUnused, isAtom, coefficientsOf, constantOf}
 use Rattle.scope.specs.Refusals.{NOT-DUE, BEYOND-LIMIT, TOO-MANY, LEFT-OVER, TOO-SHORT, Check, check, refusal, firstRefusal, Progress, stopped, going, ended, orStopped, onward}
-use Rattle.scope.specs.Wire.{Shape, unread, grown, placeCheck, sizeChecks, headKind, endKind, kindOf, atomCheck}
+use Rattle.scope.specs.Wire.{Shape, unread, grown, placeCheck, sizeChecks, headKind, endKind, kindOf, atomChecks}
 
 -- ---- the bytes
 
@@ -54,7 +54,7 @@ headWritten q = orStopped (firstRefusal (headHeldChecks q)) (going (firstWalk q)
 abbrev pub nodeHeld : Question → Walk → Node
 nodeHeld q w = nodeOf (getD (q .codes) (w .shape .nodes) 0)
 
--- a node, where a part is due: at the 65th place there is no code to look at
+-- a node, where a part is due: at the 65th place there is no code to look at, and a number's place is its node
 abbrev pub nodeHeldChecks : Question → ℕ → Walk → List Check
 nodeHeldChecks q depth w =
     let i = w .shape .nodes in
@@ -63,8 +63,7 @@ nodeHeldChecks q depth w =
     placeCheck i (w .shape) ∷
     check NOT-DUE i (not (isUnused x)) ∷
     sizeChecks i x depth (w .shape)
-    (atomCheck i x (coefficientsOf q a) (constantOf q a) ∷
-    [])
+    (atomChecks i 0 x (coefficientsOf q a) (constantOf q a))
 
 abbrev pub afterWritten : Question → ℕ → List ℕ → Walk → Walk
 afterWritten q depth due w = record { shape = grown (nodeHeld q w) depth due (w .shape); bytes = w .bytes ++ nodeBytes q (nodeHeld q w) (w .shape .atoms) }

@@ -127,6 +127,10 @@ impl Refusal {
     pub const LETTER: u8 = 10;
 
     pub const TABLE: u8 = 11;
+
+    pub const COEFFICIENT_BEYOND: u8 = 12;
+
+    pub const CONSTANT_BEYOND: u8 = 13;
 }
 
 // A record step: the kind, where the body starts, its length, and where the next record starts.

@@ -13,16 +13,27 @@
 --   failing-at         where the checks before a check are passed and it fails, the refusal is by its number and its place
 --   FirstFailing       a check fails, those before it are passed, and the refusal r is by its number and its place
 --   some-iff-failing   checks give the refusal r exactly if it is that of the first that fails
+--   EveryNumber        P holds of the number of every check
+--   failing-numbered   and so of that of the first that fails
 --   onward-stopped     work that was stopped stays so, however many steps are left
 --   onward-ended       work that has ended stays so, however many steps are left
 --   onward-going       work that goes on takes one step, and goes on from there with one step less
 pub mod Checks
+-- an atom's numbers, in field order
+--   FitTo                 the first j coefficients are within their limit, and the next one, where there is one, is not
+--   coefficient-refused   where that is one of them, it is refused by 12, at its place
+--   constant-left         where that is none of them, the check of the constant, at its place, is left
+--   row-beyond            where all have one place and a coefficient is beyond its limit, the refusal is 12 there
+--   row-within            where all have one place and no coefficient is, the check of the constant is left
+--   fields-numbered       where P holds of 12 and 13, it holds of the number of every check of an atom's numbers
+pub mod Fields
 -- work that goes on until it has ended, and two works in lockstep
 --   kept-onward   what holds at first, is kept by every step and gives `Final` at the last, gives it where the work ends
 pub mod Lockstep
 -- bytes and numbers, each as the other
 --   Octets           every number of the list is below 256
 --   octets-append    two lists of bytes, one behind the other, are bytes
+--   number-in        number j of `numbersAt count` is that 4j bytes behind the place
 --   numbers-length   `numbersAt count` has count numbers
 pub mod Octets
 -- what is seen at a place where a record's bytes stand; nodes, their kinds and their codes
@@ -117,6 +128,15 @@ pub mod Stopped
 --   written-stopped-iff   writing is stopped by r exactly if `RefusedAt` holds
 --   never-half-written    writing does not stay unfinished
 pub mod WritingStopped
+-- which number is refused
+--   StoppedByNumber         reading comes to an atom, and r names the first of its numbers beyond its limit, at that number's first byte
+--   number-stopped-iff      reading from the place is stopped by r with a number of 12 or more exactly if `StoppedByNumber` holds
+--   StoppedByVariables      the head is there, its n is beyond its limit, and r is refusal 4 at the place
+--   variables-stopped-iff   reading from the place is stopped by r with the number 4 exactly if `StoppedByVariables` holds
+--   RefusedByNumber         writing comes to an atom, and r names the first of its numbers beyond its limit, at its node
+--   number-refused-iff      writing is refused by r with a number of 12 or more exactly if `RefusedByNumber` holds
+--   variables-refused-iff   writing is refused by r with the number 4 exactly if n is beyond its limit and r is refusal 4 at 0
+pub mod WhichNumber
 -- the answer of reading, case by case
 --   ended-held    where reading from 0 ends and no byte is left, the bytes are accepted as the question read
 --   refused-iff   bytes are refused by r exactly if reading from 0 is stopped by r or r is of bytes left

@@ -1,97 +1,115 @@
-// decide BYTES R WORDROOM found STATES LETTERS | never STATES | no-room STATES | refused 8 STATES
-// build BYTES R built STATES CELLS | no-room STATES
-ghost use Prim.Native.Nat.{_≤_};
-use crate::as_bytes::atoms_of;
-use crate::as_bytes::width_of;
-use crate::numbers::item;
+// decide BYTES KEYCELLS PATHCELLS WORDCELLS = found STATES LETTERS | never STATES | no-room STATES | short STATES | refused NUMBER PLACE, then keys LIST path LIST
+// build BYTES KEYCELLS TABLECELLS = built STATES | no-room STATES | refused NUMBER PLACE, then keys LIST table LIST
+// Where a question is refused, no area is named, and all hold marks alone; so does a word's buffer where no word is found.
+use crate::cells::cells_hold;
+use crate::cells::keys_hold;
 use crate::numbers::items;
+use crate::parts::is_named;
+use crate::parts::outcome;
 use crate::parts::part;
 use crate::parts::part_number;
 use crate::parts::place_of;
+use crate::parts::word_count;
 use crate::spelling::LETTERS;
 use crate::spelling::letters_in;
-use compared::asked::BUILT;
 use compared::asked::FOUND;
-use compared::asked::SHORT;
+use compared::asked::REFUSED;
 use compared::asked::Told;
-use compared::asked::built_in;
-use compared::asked::decided_in;
+use compared::asked::building;
+use compared::asked::deciding;
 use compared::buffers::BYTE_MARK;
 use compared::buffers::CELL_MARK;
-use compared::buffers::ROWS;
-use compared::buffers::cells_of;
+use compared::buffers::KEY_MARK;
+use compared::buffers::bytes_hold;
 use compared::buffers::front_bytes;
+use compared::buffers::front_cells;
+use compared::buffers::front_keys;
+use compared::text::rest;
 
-// Building's lines lend few rows, so that its table is small.
-const TABLE: usize = 4_096;
+// The most cells that a line lends.
+const KEYS: usize = 20_000;
 
-// Whether a line's words from k on are a verdict and its states; too short a word is the refusal 8.
-fn told_right(line: &[u8], k: usize, told: Told) -> bool
-    requires { ⌜ k ≤ 16 ⌝ }
-{
-    let verdict = place_of(b"- found never no-room refused built", 6, part(line, k)) as u64;
-    let first = part_number(line, k + 1);
-    let states = told.states as u64;
-    if told.verdict == SHORT {
-        return (verdict == SHORT) & (first == 8) & (part_number(line, k + 2) == states);
-    }
-    (verdict == told.verdict) & (first == states)
+pub const CELLS: usize = 50_000;
+
+// Whether an outcome begins with a verdict and its numbers.
+pub fn verdict_right(told: &[u8], answer: Told) -> bool {
+    let verdict = place_of(b"refused found never no-room short built", 6, part(told, 0)) as u64;
+    let states = answer.states as u64;
+    let place = answer.letters as u64;
+    (verdict == answer.verdict)
+        & (part_number(told, 1) == states)
+        & ((verdict != REFUSED) | (part_number(told, 2) == place))
 }
 
-// Whether the word's buffer has the word of a list.
-fn word_right(list: &[u8], told: Told, letters: &[u8; LETTERS]) -> bool {
-    if told.verdict != FOUND {
-        return true;
+// Whether a buffer has the word found, which is an outcome's third word, and nothing where none is.
+pub fn word_right(told: &[u8], answer: Told, letters: &[u8; LETTERS]) -> bool {
+    if answer.verdict != FOUND {
+        return bytes_hold(letters, 0, BYTE_MARK);
     }
+    let list = part(told, 2);
     let wanted = letters_in(list);
-    (items(list) == told.letters) & check::same(&wanted, letters)
+    (items(list) == answer.letters) & check::same(&wanted, letters)
+}
+
+// The names and lists behind a verdict and its numbers.
+fn lists_of<'a>(told: &'a [u8], verdict: u64) -> &'a [u8] {
+    if (verdict == REFUSED) | (verdict == FOUND) {
+        rest(told, 3, b' ')
+    } else {
+        rest(told, 2, b' ')
+    }
+}
+
+// Whether that is a list of keys and one of other cells; where it is refused, nothing.
+fn are_lists(lists: &[u8], verdict: u64, name: &[u8]) -> bool {
+    if verdict == REFUSED {
+        return lists.len() == 0;
+    }
+    (word_count(lists) == 4) & is_named(lists, 0, b"keys") & is_named(lists, 2, name)
+}
+
+// The room that a line lends in its word number k.
+fn room(line: &[u8], k: usize) -> usize {
+    part_number(line, k) as usize
+}
+
+fn rooms_fit(line: &[u8]) -> bool {
+    (room(line, 2) <= KEYS) & (room(line, 3) <= CELLS)
+}
+
+// Whether an outcome is an answer, and the areas hold what it tells of them.
+fn areas_right(told: &[u8], answer: Told, keys: &[i32], name: &[u8], cells: &[u16]) -> bool {
+    let lists = lists_of(told, answer.verdict);
+    are_lists(lists, answer.verdict, name)
+        & verdict_right(told, answer)
+        & keys_hold(part(lists, 1), keys)
+        & cells_hold(part(lists, 3), cells)
 }
 
 pub fn decide_right(line: &[u8], bytes: &[u8]) -> bool {
-    let rows = part_number(line, 2) as usize;
-    let room = part_number(line, 3) as usize;
-    if (ROWS < rows) | (LETTERS < room) {
-        return false;
-    }
-    let mut letters = [BYTE_MARK; LETTERS];
-    let told = decided_in(
+    let told = outcome(line, 5);
+    let mut keys = [KEY_MARK; KEYS];
+    let mut path = [CELL_MARK; CELLS];
+    let mut word = [BYTE_MARK; LETTERS];
+    let answer = deciding(
         bytes,
-        atoms_of(bytes),
-        rows,
-        front_bytes(&mut letters, room),
+        front_keys(&mut keys, room(line, 2)),
+        front_cells(&mut path, room(line, 3)),
+        front_bytes(&mut word, room(line, 4)),
     );
-    told_right(line, 4, told) & word_right(part(line, 6), told, &letters)
-}
-
-fn wide(cell: u16) -> u64 {
-    cell as u64
-}
-
-// Whether a table's first cells are those of a list.
-fn cells_right(list: &[u8], table: &[u16; TABLE], n: usize) -> bool {
-    let mut same = items(list) == n;
-    let mut i = 0;
-    while i < TABLE && i < n {
-        same = same & (item(list, i) == wide(table[i]));
-        i += 1;
-    }
-    same
-}
-
-fn table_right(list: &[u8], told: Told, width: usize, table: &[u16; TABLE]) -> bool {
-    if told.verdict != BUILT {
-        return true;
-    }
-    cells_right(list, table, cells_of(told.states, width))
+    rooms_fit(line)
+        & (room(line, 4) <= LETTERS)
+        & areas_right(told, answer, &keys, b"path", &path)
+        & word_right(told, answer, &word)
 }
 
 pub fn build_right(line: &[u8], bytes: &[u8]) -> bool {
-    let width = width_of(bytes);
-    let rows = part_number(line, 2) as usize;
-    if TABLE < cells_of(rows, width) {
-        return false;
-    }
-    let mut table = [CELL_MARK; TABLE];
-    let told = built_in(bytes, atoms_of(bytes), width, rows, &mut table);
-    told_right(line, 3, told) & table_right(part(line, 5), told, width, &table)
+    let mut keys = [KEY_MARK; KEYS];
+    let mut table = [CELL_MARK; CELLS];
+    let answer = building(
+        bytes,
+        front_keys(&mut keys, room(line, 2)),
+        front_cells(&mut table, room(line, 3)),
+    );
+    rooms_fit(line) & areas_right(outcome(line, 4), answer, &keys, b"table", &table)
 }

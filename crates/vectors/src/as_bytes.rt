@@ -1,27 +1,29 @@
-// read BYTES accepted N CODES COEFFICIENTS CONSTANTS | refused NUMBER PLACE
-// write N CODES COEFFICIENTS CONSTANTS ROOM written BYTES | refused NUMBER PLACE
-// and what a question's rows are like.
-ghost use Prim.Native.Nat.{_≤_};
+// read BYTES = accepted N CODES COEFFICIENTS CONSTANTS | refused NUMBER PLACE
+// write N CODES COEFFICIENTS CONSTANTS ROOM = written BYTES | refused NUMBER PLACE
+// record BYTES AT = record KIND BODY NEXT | refused NUMBER PLACE
 use crate::numbers::BYTES;
 use crate::numbers::bytes_in;
 use crate::numbers::is_hex;
 use crate::numbers::item;
 use crate::numbers::items;
-use crate::numbers::plus_if;
 use crate::numbers::signed;
 use crate::numbers::small;
-use crate::parts::is_named;
+use crate::parts::hex_part;
 use crate::parts::is_refused;
+use crate::parts::is_said;
+use crate::parts::outcome;
 use crate::parts::part;
 use crate::parts::part_number;
 use compared::buffers::BYTE_MARK;
 use compared::buffers::bytes_hold;
 use compared::buffers::front_bytes;
 use compared::buffers::same_question;
+use compared::buffers::stretch;
+use compared::text::rest;
 use scope::Question;
 use scope::ReadAnswer;
+use scope::RecordAnswer;
 use scope::WriteAnswer;
-use scope::is_atom;
 
 fn codes_in(list: &[u8]) -> [u8; Question::NODES] {
     let mut codes = [0u8; Question::NODES];
@@ -53,15 +55,13 @@ fn constants_in(list: &[u8]) -> [i32; Question::ATOMS] {
     all
 }
 
-// The question in a line's words from k on.
-fn question_in(line: &[u8], k: usize) -> Question
-    requires { ⌜ k ≤ 16 ⌝ }
-{
-    let codes = codes_in(part(line, k + 1));
-    let coefficients = coefficients_in(part(line, k + 2));
-    let constants = constants_in(part(line, k + 3));
+// The question in four words.
+fn question_in(four: &[u8]) -> Question {
+    let codes = codes_in(part(four, 1));
+    let coefficients = coefficients_in(part(four, 2));
+    let constants = constants_in(part(four, 3));
     Question {
-        n: small(part_number(line, k)),
+        n: small(part_number(four, 0)),
         codes,
         coefficients,
         constants,
@@ -69,79 +69,82 @@ fn question_in(line: &[u8], k: usize) -> Question
 }
 
 // Whether it has all its numbers there.
-fn is_question(line: &[u8], k: usize) -> bool
-    requires { ⌜ k ≤ 16 ⌝ }
-{
-    (part_number(line, k) < 256)
-        & (items(part(line, k + 1)) == Question::NODES)
-        & (items(part(line, k + 2)) == Question::COEFFICIENTS)
-        & (items(part(line, k + 3)) == Question::ATOMS)
+fn is_question(four: &[u8]) -> bool {
+    (part_number(four, 0) < 256)
+        & (items(part(four, 1)) == Question::NODES)
+        & (items(part(four, 2)) == Question::COEFFICIENTS)
+        & (items(part(four, 3)) == Question::ATOMS)
+}
+
+// Whether four words are a question.
+fn question_right(four: &[u8], question: Question) -> bool {
+    is_question(four) & same_question(question, question_in(four))
 }
 
 pub fn read_right(line: &[u8], bytes: &[u8]) -> bool {
+    let told = outcome(line, 2);
     let held = reading::read(bytes);
     let answer = held.answer;
     let question = held.question;
     match answer {
         ReadAnswer::Accepted => {
-            is_named(line, 2, b"accepted")
-                & is_question(line, 3)
-                & same_question(question, question_in(line, 3))
+            is_said(told, b"accepted", 5) & question_right(rest(told, 1, b' '), question)
         }
         ReadAnswer::Refused(refusal) => {
-            is_refused(line, 2, refusal, part_number(line, 4))
-                & same_question(question, Question::empty())
+            is_refused(told, refusal) & same_question(question, Question::empty())
         }
     }
 }
 
-// Whether a buffer holds the bytes of a text, so many, and marks beyond.
-fn holds(text: &[u8], bytes: &[u8; BYTES], n: usize) -> bool {
+// Whether bytes are those of a text in hexadecimal.
+fn same_bytes(text: &[u8], bytes: &[u8]) -> bool {
     let wanted = bytes_in(text);
-    is_hex(text) & (text.len() / 2 == n) & check::same(&wanted, bytes)
+    is_hex(text) & check::same(stretch(&wanted, 0, text.len() / 2), bytes)
 }
 
-fn written(line: &[u8], answer: WriteAnswer, bytes: &[u8; BYTES]) -> bool {
+// Whether a buffer has the bytes told, and marks beyond.
+fn same_written(told: &[u8], bytes: &[u8], n: usize) -> bool {
+    is_said(told, b"written", 2)
+        & same_bytes(hex_part(told, 1), stretch(bytes, 0, n))
+        & bytes_hold(bytes, n, BYTE_MARK)
+}
+
+fn written(told: &[u8], answer: WriteAnswer, bytes: &[u8; BYTES]) -> bool {
     match answer {
-        WriteAnswer::Written(n) => is_named(line, 6, b"written") & holds(part(line, 7), bytes, n),
+        WriteAnswer::Written(n) => same_written(told, bytes, n),
         WriteAnswer::Refused(refusal) => {
-            is_refused(line, 6, refusal, part_number(line, 8)) & bytes_hold(bytes, 0, BYTE_MARK)
+            is_refused(told, refusal) & bytes_hold(bytes, 0, BYTE_MARK)
         }
     }
 }
 
 pub fn write_right(line: &[u8]) -> bool {
-    let mut bytes = [BYTE_MARK; BYTES];
+    let four = rest(line, 1, b' ');
     let room = part_number(line, 5) as usize;
     if BYTES < room {
         return false;
     }
-    let answer = writing::write(question_in(line, 1), front_bytes(&mut bytes, room));
-    is_question(line, 1) & written(line, answer, &bytes)
+    let mut bytes = [BYTE_MARK; BYTES];
+    let answer = writing::write(question_in(four), front_bytes(&mut bytes, room));
+    is_question(four) & written(outcome(line, 6), answer, &bytes)
 }
 
-// The atoms of the question in some bytes.
-pub fn atoms_of(bytes: &[u8]) -> usize {
-    let held = reading::read(bytes);
-    let question = held.question;
-    let codes = question.codes;
-    let mut atoms = 0;
-    let mut i = 0;
-    while i < Question::NODES {
-        atoms = plus_if(is_atom(codes[i]), atoms);
-        i += 1;
-    }
-    atoms
+fn same_record(told: &[u8], kind: u16, body: &[u8], next: usize) -> bool {
+    is_said(told, b"record", 4)
+        & (part_number(told, 1) == kind as u64)
+        & same_bytes(hex_part(told, 2), body)
+        & (part_number(told, 3) == next as u64)
 }
 
-// The cells of a row of its table.
-pub fn width_of(bytes: &[u8]) -> usize {
-    let held = reading::read(bytes);
-    let question = held.question;
-    let n = question.n;
-    if n <= 6 {
-        scope::letters(n as usize) + 1
-    } else {
-        0
+pub fn record_right(line: &[u8], bytes: &[u8]) -> bool {
+    let told = outcome(line, 3);
+    match records::record_at(bytes, part_number(line, 2) as usize) {
+        RecordAnswer::Record {
+            kind,
+            start,
+            len,
+            next,
+        } => same_record(told, kind, records::body(bytes, start, len), next),
+        RecordAnswer::Refused(refusal) => is_refused(told, refusal),
     }
 }

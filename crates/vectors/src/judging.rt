@@ -1,8 +1,9 @@
-// judge BYTES VALUES yes | no | refused NUMBER
+// judge BYTES VALUES = yes | no | refused NUMBER PLACE
 use crate::numbers::item;
 use crate::numbers::items;
-use crate::parts::is_named;
 use crate::parts::is_refused;
+use crate::parts::is_said;
+use crate::parts::outcome;
 use crate::parts::part;
 use compared::buffers::first_values;
 use scope::TruthAnswer;
@@ -20,12 +21,11 @@ fn values_in(list: &[u8]) -> [u64; VALUES] {
     values
 }
 
-// The vectors of this call name no place of a refusal, and it is 0.
-fn answered(line: &[u8], answer: TruthAnswer) -> bool {
+fn answered(told: &[u8], answer: TruthAnswer) -> bool {
     match answer {
-        TruthAnswer::Yes => is_named(line, 3, b"yes"),
-        TruthAnswer::No => is_named(line, 3, b"no"),
-        TruthAnswer::Refused(refusal) => is_refused(line, 3, refusal, 0),
+        TruthAnswer::Yes => is_said(told, b"yes", 1),
+        TruthAnswer::No => is_said(told, b"no", 1),
+        TruthAnswer::Refused(refusal) => is_refused(told, refusal),
     }
 }
 
@@ -36,5 +36,8 @@ pub fn judge_right(line: &[u8], bytes: &[u8]) -> bool {
     if VALUES < n {
         return false;
     }
-    answered(line, judge::judge(bytes, first_values(&values, n)))
+    answered(
+        outcome(line, 3),
+        judge::judge(bytes, first_values(&values, n)),
+    )
 }

@@ -5,10 +5,10 @@ use compared::buffers::stretch;
 use compared::text::word;
 
 // What is read where there is no number.
-const NONE: u64 = 18_446_744_073_709_551_615;
+pub const NONE: u64 = 18_446_744_073_709_551_615;
 
 // A number below zero is told by this and its size.
-const BELOW: u64 = 9_223_372_036_854_775_808;
+pub const BELOW: u64 = 9_223_372_036_854_775_808;
 
 // The bytes of a question in a line at most.
 pub const BYTES: usize = 2_048;
@@ -81,9 +81,9 @@ pub fn marks(text: &[u8], mark: u8) -> usize {
     count
 }
 
-// How many numbers a list has; a list that is a dash alone has none.
+// How many numbers a list has; none where it is a dash alone, or not there.
 pub fn items(list: &[u8]) -> usize {
-    if check::same(list, b"-") {
+    if (list.len() == 0) | check::same(list, b"-") {
         return 0;
     }
     plus_if(true, marks(list, b','))
@@ -94,24 +94,29 @@ pub fn small(number: u64) -> u8 {
     if number < 256 { number as u8 } else { 255 }
 }
 
-fn negated(size: u64) -> i32
-    requires { ⌜ size ≤ 2147483647 ⌝ }
-{
-    0 - size as i32
+// What is read where there is no number of 32 bits: no question that is accepted has it.
+const NO_SIGNED: i32 = 2_147_483_647;
+
+fn negated(size: u64) -> i32 {
+    if size <= 2_147_483_647 {
+        return 0 - size as i32;
+    }
+    if size == 2_147_483_648 {
+        -2_147_483_648
+    } else {
+        NO_SIGNED
+    }
 }
 
-// A number of 32 bits; 0 where it has more.
+// A number of 32 bits.
 pub fn signed(number: u64) -> i32 {
     if number <= 2_147_483_647 {
         return number as i32;
     }
     if number < BELOW {
-        return 0;
-    }
-    if number - BELOW <= 2_147_483_647 {
-        negated(number - BELOW)
+        NO_SIGNED
     } else {
-        0
+        negated(number - BELOW)
     }
 }
 

@@ -1,9 +1,10 @@
-// spell N VARIABLE LETTERS value V | refused NUMBER
+// spell N VARIABLE LETTERS = value V | refused NUMBER PLACE
 use crate::numbers::item;
 use crate::numbers::items;
 use crate::numbers::small;
-use crate::parts::is_named;
 use crate::parts::is_refused;
+use crate::parts::is_said;
+use crate::parts::outcome;
 use crate::parts::part;
 use crate::parts::part_number;
 use compared::buffers::BYTE_MARK;
@@ -25,11 +26,10 @@ pub fn letters_in(list: &[u8]) -> [u8; LETTERS] {
     letters
 }
 
-// The vectors of this call name no place of a refusal, and it is 0.
-fn answered(line: &[u8], answer: SpellAnswer) -> bool {
+fn answered(told: &[u8], answer: SpellAnswer) -> bool {
     match answer {
-        SpellAnswer::Value(value) => is_named(line, 4, b"value") & (part_number(line, 5) == value),
-        SpellAnswer::Refused(refusal) => is_refused(line, 4, refusal, 0),
+        SpellAnswer::Value(value) => is_said(told, b"value", 2) & (part_number(told, 1) == value),
+        SpellAnswer::Refused(refusal) => is_refused(told, refusal),
     }
 }
 
@@ -39,7 +39,7 @@ pub fn spell_right(line: &[u8]) -> bool {
     let list = part(line, 3);
     let letters = letters_in(list);
     answered(
-        line,
+        outcome(line, 4),
         words::spell(n, variable, stretch(&letters, 0, items(list))),
     )
 }

@@ -2,7 +2,7 @@
 use mathlib.Core.Path.{_≡_, refl, sym, ap, _∙_}
 use mathlib.Core.Bool.{Bool, true, false, not, cond}
 use mathlib.Core.Option.{Option, none, some}
-use mathlib.Core.List.{[], _++_}
+use mathlib.Core.List.{[], _∷_, _++_}
 use Prim.Native.Nat.{ℕ, zero, suc, _+_, _*_, _<_, _≤_}
 use native.Mathlib.Omega.{arith}
 use borrow.Author.Tests.{lt-ltb, le-ltb, lt-leb, ne-eqb}
@@ -12,36 +12,50 @@ use lib.ListN.{getD, take, drop}
 use Rattle.scope.specs.declared.Question.{Question}
 use Rattle.scope.specs.declared.Refusal.{Refusal}
 use Rattle.scope.specs.Whole.{all, allFrom}
-use Rattle.scope.specs.Sizes.{mostVariables, mostAtoms, mostNodes, mostDepth, variablesFit, coefficientFits, constantFits, numbersFit}
+use Rattle.scope.specs.Sizes.{mostVariables, mostAtoms, mostNodes, mostDepth, variablesFit, coefficientFits, constantFits}
 use Rattle.scope.specs.Question.{Node, unused, nodeOf, isUnused, isAtom, coefficientsOf, constantOf}
-use Rattle.scope.specs.Refusals.{NOT-DUE, BEYOND-LIMIT, TOO-MANY, LEFT-OVER, refusal, firstRefusal, Progress, stopped, going, ended, orStopped, onward}
-use Rattle.scope.specs.Wire.{endKind}
+use Rattle.scope.specs.Refusals.{NOT-DUE, BEYOND-LIMIT, TOO-MANY, LEFT-OVER, COEFFICIENT-BEYOND, CONSTANT-BEYOND, check, refusal, firstRefusal, Progress, stopped, going, ended, orStopped, onward}
+use Rattle.scope.specs.Wire.{endKind, fieldChecks}
 use Rattle.scope.specs.Writing.{recordBytes, Walk, firstWalk, headWritten, nodeHeld, nodeHeldChecks, partWritten, numbersClear, numberChecks, leftOverChecks, endWritten, written}
 use Rattle.theory.specs.Wire.Checks.{none-passed, onward-stopped}
+use Rattle.theory.specs.Wire.Fields.{row-beyond, row-within}
 use Rattle.theory.specs.Wire.Records.{code-of-node}
 use Rattle.theory.specs.Wire.WritingSteps.{head-written}
 use Rattle.records.specs.declared.nodes.NodeAnswer.{NodeAnswer}
 use Rattle.records.specs.Formula.{counts, sizeFits}
-use Rattle.records.specs.Parts.{nodeOr}
+use Rattle.records.specs.Parts.{codeOr, nodeOr}
 use Rattle.records.proofs.Codes.{Coded, coded}
-use Rattle.records.proofs.Checks.{true-T, first-failed, first-passed, no-room, some-room, too-large, small-enough, few-atoms, numbers-plain, numbers-fit, numbers-beyond, node-none, node-some}
-use Rattle.writing.specs.Writes.{bytesTo, bareQuestion, codeAnswer, walkAt, formulaWritten, CodeLeft, coefficientClear, constantClear}
+use Rattle.records.proofs.Checks.{true-T, first-failed, first-passed, no-room, some-room, too-large, small-enough, few-atoms, no-numbers, atom-numbers, node-none, node-some}
+use Rattle.writing.specs.Writes.{bytesTo, bareQuestion, numbersAnswer, codeAnswer, walkAt, formulaWritten, CodeLeft, coefficientClear, constantClear}
 
 -- ---- an atom's numbers
 
 module _ (q : Question) (a : ℕ) where
-  pub row-fit : all coefficientFits (take (q .n) (drop (mostVariables * a) (q .coefficients))) ≡ true → constantFits (getD (q .constants) a (pos 0)) ≡ numbersFit (coefficientsOf q a) (constantOf q a)
-  unfolding numbersFit coefficientsOf constantOf
-  row-fit e = rw e
+  module _ (node code : ℕ) where
+    abbrev answered : Option Refusal → NodeAnswer
+    answered o = codeOr o code
 
-  pub row-beyond : all coefficientFits (take (q .n) (drop (mostVariables * a) (q .coefficients))) ≡ false → false ≡ numbersFit (coefficientsOf q a) (constantOf q a)
-  unfolding numbersFit coefficientsOf
-  row-beyond e = rw e
+    pub coefficient-beyond : all coefficientFits (take (q .n) (drop (mostVariables * a) (q .coefficients))) ≡ false → NodeAnswer.Refused (refusal COEFFICIENT-BEYOND node) ≡ numbersAnswer q a node code
+    unfolding coefficientsOf
+    coefficient-beyond e = sym (ap answered (row-beyond node (constantOf q a) (coefficientsOf q a) e))
 
-  -- the codes have no part in it
-  pub fits-alone : numbersFit (coefficientsOf (bareQuestion (q .n) (q .coefficients) (q .constants)) a) (constantOf (bareQuestion (q .n) (q .coefficients) (q .constants)) a) ≡ numbersFit (coefficientsOf q a) (constantOf q a)
-  unfolding coefficientsOf constantOf
-  fits-alone = refl
+    module _ (e : all coefficientFits (take (q .n) (drop (mostVariables * a) (q .coefficients))) ≡ true) where
+      last-field : firstRefusal (fieldChecks node 0 (coefficientsOf q a) (constantOf q a)) ≡ firstRefusal (check CONSTANT-BEYOND node (constantFits (constantOf q a)) ∷ [])
+      unfolding coefficientsOf
+      last-field = row-within node (constantOf q a) (coefficientsOf q a) e
+
+      pub constant-beyond : constantFits (getD (q .constants) a (pos 0)) ≡ false → NodeAnswer.Refused (refusal CONSTANT-BEYOND node) ≡ numbersAnswer q a node code
+      unfolding constantOf
+      constant-beyond f = sym (ap answered (last-field ∙ first-failed CONSTANT-BEYOND node (constantFits (constantOf q a)) [] f))
+
+      pub numbers-within : constantFits (getD (q .constants) a (pos 0)) ≡ true → NodeAnswer.Node code ≡ numbersAnswer q a node code
+      unfolding constantOf firstRefusal
+      numbers-within f = sym (ap answered (last-field ∙ first-passed CONSTANT-BEYOND node (constantFits (constantOf q a)) [] f))
+
+    -- the codes have no part in it
+    pub numbers-alone : numbersAnswer (bareQuestion (q .n) (q .coefficients) (q .constants)) a node code ≡ numbersAnswer q a node code
+    unfolding coefficientsOf constantOf
+    numbers-alone = refl
 
   -- ---- what is left over of the numbers
 
@@ -101,15 +115,12 @@ module _ (q : Question) (depth : ℕ) (w : Walk) where
 
         pub code-plain : isAtom x ≡ false → NodeAnswer.Node (getD (q .codes) i 0) ≡ codeAnswer q depth w
         code-plain a = same-code
-            ∙ sym (ap answer (some-room i (w .shape) _ h ∙ first-passed NOT-DUE i (not (isUnused x)) _ u ∙ small-enough i (w .shape) _ x depth e ∙ numbers-plain i x (coefficientsOf q (w .shape .atoms)) (constantOf q (w .shape .atoms)) a))
+            ∙ sym (ap answer (some-room i (w .shape) _ h ∙ first-passed NOT-DUE i (not (isUnused x)) _ u ∙ small-enough i (w .shape) _ x depth e ∙ no-numbers i 0 x (coefficientsOf q (w .shape .atoms)) (constantOf q (w .shape .atoms)) a))
 
-        module _ (a : isAtom x ≡ true) where
-          pub code-atom : numbersFit (coefficientsOf q (w .shape .atoms)) (constantOf q (w .shape .atoms)) ≡ true → NodeAnswer.Node (getD (q .codes) i 0) ≡ codeAnswer q depth w
-          code-atom f = same-code
-              ∙ sym (ap answer (some-room i (w .shape) _ h ∙ first-passed NOT-DUE i (not (isUnused x)) _ u ∙ small-enough i (w .shape) _ x depth e ∙ numbers-fit i x (coefficientsOf q (w .shape .atoms)) (constantOf q (w .shape .atoms)) a f))
-
-          pub code-beyond : numbersFit (coefficientsOf q (w .shape .atoms)) (constantOf q (w .shape .atoms)) ≡ false → NodeAnswer.Refused (refusal BEYOND-LIMIT i) ≡ codeAnswer q depth w
-          code-beyond f = sym (ap answer (some-room i (w .shape) _ h ∙ first-passed NOT-DUE i (not (isUnused x)) _ u ∙ small-enough i (w .shape) _ x depth e ∙ numbers-beyond i x (coefficientsOf q (w .shape .atoms)) (constantOf q (w .shape .atoms)) a f))
+        pub code-atom : isAtom x ≡ true → numbersAnswer q (w .shape .atoms) i (getD (q .codes) i 0) ≡ codeAnswer q depth w
+        code-atom a =
+            ap (codeOr (firstRefusal (fieldChecks i 0 (coefficientsOf q (w .shape .atoms)) (constantOf q (w .shape .atoms))))) (sym (code-of-node (getD (q .codes) i 0) (true-T (not (isUnused x)) u)))
+            ∙ sym (ap answer (some-room i (w .shape) _ h ∙ first-passed NOT-DUE i (not (isUnused x)) _ u ∙ small-enough i (w .shape) _ x depth e ∙ atom-numbers i 0 x (coefficientsOf q (w .shape .atoms)) (constantOf q (w .shape .atoms)) a))
 
 -- a code that passed every check
 pub record CodeTaken (q : Question) (depth : ℕ) (w : Walk) (code : ℕ) : Type 0 where

@@ -4,12 +4,12 @@ ghost use mathlib.Core.Bool.{not};
 ghost use Prim.Native.Nat.{_+_, _*_, _≤_, _<_};
 ghost use lib.ListN.{length, take, drop};
 ghost use Rattle.scope.specs.Whole.{all, allFrom};
-ghost use Rattle.scope.specs.Sizes.{mostVariables, mostAtoms, mostNodes, coefficientFits, numbersFit};
-ghost use Rattle.scope.specs.Question.{nodeOf, isUnused, coefficientsOf, constantOf};
+ghost use Rattle.scope.specs.Sizes.{mostVariables, mostAtoms, mostNodes, coefficientFits};
+ghost use Rattle.scope.specs.Question.{nodeOf, isUnused};
 ghost use Rattle.scope.specs.Writing.{numbersClear};
 ghost use Rattle.theory.specs.Wire.Held.{Sized};
 ghost use Rattle.records.specs.Parts.{heldQuestion, AtomHeld};
-ghost use Rattle.writing.specs.Writes.{bareQuestion, walkAt, codeAnswer, FormulaSays, CheckedSays, CodeLeft, isZero, coefficientClear, constantClear};
+ghost use Rattle.writing.specs.Writes.{bareQuestion, walkAt, numbersAnswer, codeAnswer, FormulaSays, CheckedSays, CodeLeft, isZero, coefficientClear, constantClear};
 use records::DUE;
 use records::NodeAnswer;
 use records::body_length;
@@ -50,15 +50,25 @@ pub fn row_fits(coefficients: &[i32], cell: usize, n: usize) -> bool
     true
 }
 
-// The numbers of an atom.
-pub fn atom_fits(n: usize, coefficients: &[i32], constants: &[i32], atom: usize) -> bool
+// The numbers of an atom: one beyond its limit is refused at the node.
+pub fn atom_at(
+    n: usize,
+    coefficients: &[i32],
+    constants: &[i32],
+    atom: usize,
+    node: usize,
+    code: u8,
+) -> NodeAnswer
     requires { ⌜ AtomHeld n (now coefficients) (now constants) atom ⌝ }
-    ensures { λ r. ⌜ r ≡ numbersFit (coefficientsOf (bareQuestion n (now (coefficients .entry)) (now (constants .entry))) atom) (constantOf (bareQuestion n (now (coefficients .entry)) (now (constants .entry))) atom) ⌝ }
+    ensures { λ r. ⌜ r ≡ numbersAnswer (bareQuestion n (now (coefficients .entry)) (now (constants .entry))) atom node code ⌝ }
 {
-    if row_fits(coefficients, Question::VARIABLES * atom, n) {
-        return constant_fits(constants[atom]);
+    if !row_fits(coefficients, Question::VARIABLES * atom, n) {
+        return refused(Refusal::COEFFICIENT_BEYOND, node);
     }
-    false
+    if constant_fits(constants[atom]) {
+        return NodeAnswer::Node(code);
+    }
+    refused(Refusal::CONSTANT_BEYOND, node)
 }
 
 pub fn is_node(code: u8) -> bool
@@ -94,10 +104,7 @@ pub fn code_at(
     if !atom {
         return NodeAnswer::Node(code);
     }
-    if atom_fits(n, coefficients, constants, atoms) {
-        return NodeAnswer::Node(code);
-    }
-    refused(Refusal::BEYOND_LIMIT, nodes)
+    atom_at(n, coefficients, constants, atoms, nodes, code)
 }
 
 pub fn formula_of(n: usize, codes: &[u8], coefficients: &[i32], constants: &[i32]) -> FormulaAnswer

@@ -1,7 +1,7 @@
 -- Checks in their order: none is refused exactly where every check was passed, and the refusal is that of the first check that failed.
 -- Progress: what its checks say where it still goes, has ended or was stopped, and how a further step unfolds.
-use mathlib.Core.Path.{_≡_, refl, sym, ap, _∙_}
-use mathlib.Core.Logic.{_↔_}
+use mathlib.Core.Path.{_≡_, refl, sym, ap, _∙_, subst}
+use mathlib.Core.Logic.{_↔_, _⊎_, inl, inr, ⊎-elim}
 use mathlib.Core.Bool.{Bool, true, false, not, _&&_, _||_}
 use mathlib.Core.Option.{Option, none, some}
 use mathlib.Core.List.{List, [], _∷_, _++_}
@@ -34,7 +34,7 @@ pub was-asked : (a b : Bool) → T (not a || b) → T a → T b
 was-asked true b t u = t
 was-asked false b t u = absurd u
 
-T-true : (a : Bool) → T a → a ≡ true
+pub T-true : (a : Bool) → T a → a ≡ true
 T-true true t = refl
 T-true false t = absurd t
 
@@ -108,6 +108,36 @@ failing-some cs r f = ap firstRefusal (f .order) ∙ failing-at (f .before) (f .
 
 pub some-iff-failing : (cs : List Check) (r : Refusal) → (firstRefusal cs ≡ some r) ↔ FirstFailing cs r
 some-iff-failing cs r = (some-failing cs r, failing-some cs r)
+
+-- a check of the one list fails, or those are passed and one of the other fails
+failing-cons : (c : Check) (cs ds : List Check) (r : Refusal) (t : Bool) → c .passed ≡ t
+    → (firstRefusal (cs ++ ds) ≡ some r → (firstRefusal cs ≡ some r) ⊎ (Passed cs × (firstRefusal ds ≡ some r)))
+    → unlessPassed t (refusal (c .number) (c .place)) (firstRefusal (cs ++ ds)) ≡ some r
+    → (unlessPassed t (refusal (c .number) (c .place)) (firstRefusal cs) ≡ some r) ⊎ ((T (c .passed) × Passed cs) × (firstRefusal ds ≡ some r))
+failing-cons c cs ds r true h rest e = ⊎-elim (λ x. inl x) (λ p. inr ((rw h tt, p .0), p .1)) (rest e)
+failing-cons c cs ds r false h rest e = inl e
+
+pub failing-append : (cs ds : List Check) (r : Refusal) → firstRefusal (cs ++ ds) ≡ some r → (firstRefusal cs ≡ some r) ⊎ (Passed cs × (firstRefusal ds ≡ some r))
+unfolding firstRefusal
+failing-append [] ds r e = inr (tt, e)
+failing-append (c ∷ cs) ds r e = failing-cons c cs ds r (c .passed) refl (failing-append cs ds r) e
+
+pub passed-append : (cs ds : List Check) → Passed cs → firstRefusal (cs ++ ds) ≡ firstRefusal ds
+unfolding firstRefusal
+passed-append [] ds p = refl
+passed-append (c ∷ cs) ds p = rw (T-true (c .passed) (p .0)) (passed-append cs ds (p .1))
+
+-- what holds of the number of every check holds of a refusal's
+abbrev pub EveryNumber : (ℕ → Type 0) → List Check → Type 0
+EveryNumber P [] = Unit {0}
+EveryNumber P (c ∷ cs) = P (c .number) × EveryNumber P cs
+
+numbered-at : (P : ℕ → Type 0) (before : List Check) (c : Check) (after : List Check) → EveryNumber P (before ++ (c ∷ after)) → P (c .number)
+numbered-at P [] c after n = n .0
+numbered-at P (b ∷ before) c after n = numbered-at P before c after (n .1)
+
+pub failing-numbered : (P : ℕ → Type 0) (cs : List Check) (r : Refusal) → EveryNumber P cs → FirstFailing cs r → P (r .number)
+failing-numbered P cs r n f = rw (f .told) (numbered-at P (f .before) (f .failing) (f .after) (subst (EveryNumber P) (f .order) n))
 
 -- ---- progress
 

@@ -4,7 +4,7 @@ use mathlib.Core.List.{List, [], _∷_, _++_, map}
 use Prim.Native.Nat.{ℕ, zero, suc, _+_, _*_, _/_, _%_, _≤_, _<_}
 use native.Mathlib.Nat.{add-assoc, div-div-eq-div-mul}
 use native.Mathlib.Omega.{arith}
-use lib.ListN.{length, take, drop}
+use lib.ListN.{length, getD, take, drop}
 use lib.Seq.{getD-drop}
 use lib.IntN.{ℤ}
 use mir.Syntax.{w32}
@@ -118,6 +118,12 @@ numbers-drop (suc count) b at i = list-path (number-drop b at i) (numbers-drop c
     list-path p q i = p i ∷ q i
 
 -- ---- a run of numbers
+
+pub number-in : (count : ℕ) (b : List ℕ) (at j : ℕ) (d : ℤ) → j < count → getD (numbersAt count b at) j d ≡ numberAt b (at + 4 * j)
+unfolding numbersAt
+number-in zero b at j d h = absurd (omega arith)
+number-in (suc count) b at zero d h = let z : at + 4 * 0 ≡ at = omega arith in rw z
+number-in (suc count) b at (suc j) d h = let z : at + 4 * suc j ≡ at + 4 + 4 * j = omega arith in rw z (number-in count b (at + 4) j d (omega arith))
 
 pub numbers-length : (count : ℕ) (b : List ℕ) (at : ℕ) → length (numbersAt count b at) ≡ count
 unfolding numbersAt

@@ -11,6 +11,7 @@ use Rattle.scope.specs.Question.{isUnused, isAtom}
 use Rattle.scope.specs.Refusals.{Progress, going, ended}
 use Rattle.scope.specs.Wire.{byteAt, lengthAt, kindAt, headerThere, bodyThere, headKind, endKind, bodyLength, Reading, Ended, headRead, nodeRead, endRead, dueRead, recordRead, headChecks, afterHead, nodeAt, coefficientsAt, constantAt, nodeChecks, afterNode, endChecks, afterEnd}
 use Rattle.theory.specs.Wire.Checks.{Passed, if-asked, was-asked, still-going, still-ended, passed-on, going-one, ended-one, going-not-ended}
+use Rattle.theory.specs.Wire.Fields.{passed-atom, atom-passed}
 
 pub eq→eqb : (a b : ℕ) → a ≡ b → T (eqb a b)
 eq→eqb a b e = subst (λ (c : ℕ). T (eqb a c)) e (eqb-refl a)
@@ -71,10 +72,7 @@ node-checks b depth s h = (
             if-asked (isAtom (nodeAt b s)) (ltb (s .shape .atoms) mostAtoms) (λ t. lt→ltb (s .shape .atoms) mostAtoms (h .few t)),
             (
               le→leb depth mostDepth (h .shallow),
-              (
-                if-asked (isAtom (nodeAt b s)) (numbersFit (coefficientsAt b s) (constantAt b s)) (h .fit),
-                tt,
-              ),
+              atom-passed (isAtom (nodeAt b s)) (s .place + 4) 4 (coefficientsAt b s) (constantAt b s) (h .fit),
             ),
           ),
         ),
@@ -92,7 +90,7 @@ node-facts b depth s p = record {
   room = ltb→lt (s .shape .nodes) mostNodes (p .1 .1 .1 .1 .0);
   few = λ t. ltb→lt (s .shape .atoms) mostAtoms (was-asked (isAtom (nodeAt b s)) (ltb (s .shape .atoms) mostAtoms) (p .1 .1 .1 .1 .1 .0) t);
   shallow = leb→le depth mostDepth (p .1 .1 .1 .1 .1 .1 .0);
-  fit = was-asked (isAtom (nodeAt b s)) (numbersFit (coefficientsAt b s) (constantAt b s)) (p .1 .1 .1 .1 .1 .1 .1 .0);
+  fit = passed-atom (isAtom (nodeAt b s)) (s .place + 4) 4 (coefficientsAt b s) (constantAt b s) (p .1 .1 .1 .1 .1 .1 .1);
 }
 
 -- ---- the end

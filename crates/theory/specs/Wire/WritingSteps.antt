@@ -19,6 +19,7 @@ use Rattle.scope.specs.Wire.{Shape}
 use Rattle.scope.specs.Writing.{Walk, headWritten, nodeWritten, dueWritten, partWritten, codeChecks, coefficientUsed, numbersClear, leftOverChecks, firstWalk, nodeHeld, nodeHeldChecks, afterWritten, headHeldChecks, numberChecks}
 use Rattle.theory.specs.Numbers.Integers.{eqZ→eq, eq→eqZ}
 use Rattle.theory.specs.Wire.Checks.{Passed, and-first, and-second, and-both, if-asked, was-asked, still-going, still-ended, passed-on, going-one, ended-one, going-not-ended}
+use Rattle.theory.specs.Wire.Fields.{passed-atom, atom-passed}
 use Rattle.theory.specs.Wire.Held.{Sized, Blank}
 use Rattle.theory.specs.Wire.ReadingSteps.{eq→eqb}
 
@@ -56,10 +57,7 @@ held-checks q depth w h = (
       if-asked (isAtom (nodeHeld q w)) (ltb (w .shape .atoms) mostAtoms) (λ t. lt→ltb (w .shape .atoms) mostAtoms (h .few t)),
       (
         le→leb depth mostDepth (h .shallow),
-        (
-          if-asked (isAtom (nodeHeld q w)) (numbersFit (coefficientsOf q (w .shape .atoms)) (constantOf q (w .shape .atoms))) (h .fit),
-          tt,
-        ),
+        atom-passed (isAtom (nodeHeld q w)) (w .shape .nodes) 0 (coefficientsOf q (w .shape .atoms)) (constantOf q (w .shape .atoms)) (h .fit),
       ),
     ),
   ),
@@ -71,7 +69,7 @@ held-facts q depth w p = record {
   used = p .1 .0;
   few = λ t. ltb→lt (w .shape .atoms) mostAtoms (was-asked (isAtom (nodeHeld q w)) (ltb (w .shape .atoms) mostAtoms) (p .1 .1 .0) t);
   shallow = leb→le depth mostDepth (p .1 .1 .1 .0);
-  fit = was-asked (isAtom (nodeHeld q w)) (numbersFit (coefficientsOf q (w .shape .atoms)) (constantOf q (w .shape .atoms))) (p .1 .1 .1 .1 .0);
+  fit = passed-atom (isAtom (nodeHeld q w)) (w .shape .nodes) 0 (coefficientsOf q (w .shape .atoms)) (constantOf q (w .shape .atoms)) (p .1 .1 .1 .1);
 }
 
 pub record HeldStep (q : Question) (w v : Walk) : Type 0 where

@@ -6,10 +6,10 @@ use Rattle.compared.proofs.text.stop.Statement.{statement}
 use Rattle.compared.proofs.text.stop.Tie as tie
 
 abbrev Inv-loop : tie.InvT-loop
-Inv-loop text at mark i₀ i = Unit
+Inv-loop text mark i₀ i = Unit
 
 abbrev μ-loop : tie.MeasureT-loop
-μ-loop text at mark i₀ i = length text - i
+μ-loop text mark i₀ i = length text - i
 
 pub stop-spec : {M : Type 1} → statement M
 stop-spec =

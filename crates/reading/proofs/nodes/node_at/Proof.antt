@@ -14,7 +14,7 @@ use Rattle.records.specs.Formula.{sizeFits}
 use Rattle.records.specs.Parts.{heldQuestion}
 use Rattle.records.proofs.Checks.{sized-few}
 use Rattle.reading.specs.Steps.{readingAt, nodeFrame}
-use Rattle.reading.proofs.Taken.{NodeKnown, node-known, atom-within, frame-kept, node-full, node-large, node-plain, node-atom, node-beyond}
+use Rattle.reading.proofs.Taken.{NodeKnown, node-known, atom-within, frame-kept, node-full, node-large, node-plain, node-atom}
 use Rattle.reading.proofs.Noting.{noted-plain, noted-atom, read-refused, read-noted}
 use Rattle.reading.proofs.nodes.node_at.Statement.{statement}
 use Rattle.reading.proofs.nodes.node_at.Tie as tie
@@ -91,9 +91,6 @@ returns-4 c =
     (sym (framed k) ∙ node-plain (bytes s) (s .args .depth) (so-far s) _ (framed k) (c .before .before .before .if1 .left) (small (c .before)) plain)
     _ (noted-plain (so-far s .question) (so-far s .shape) (here s) (coefficientsAt (bytes s) (so-far s)) (constantAt (bytes s) (so-far s)) _ (node k .is) plain)
 
-add-take-atom : tie.Need-add-take-atom
-add-take-atom c = omega (arith, node (c .before .before .before .before .before) .within)
-
 take-atom-requires : tie.Need-take-atom-requires
 take-atom-requires c κs =
     let t = c .before .before in
@@ -110,28 +107,19 @@ take-atom-requires c κs =
 
 returns-5 : tie.Need-returns-5
 returns-5 c =
-    let l = c .before .before .before .before .before .before in
+    let l = c .before .before .before .before .before in
     let k = l .before .before .before .before .before in
     let s = start k in
-    let t = c .before .before .before .take-atom .ensures in
-    read-noted (bytes s) (s .args .depth) (so-far s) _
-    (sym (framed k) ∙ node-atom (bytes s) (s .args .depth) (so-far s) _ (framed k) (l .before .before .before .if1 .left) (small (l .before)) (atom l) (sym (t .fits) ∙ c .if4 .taken))
-    _ (noted-atom (so-far s .question) (so-far s .shape) (here s) (coefficientsAt (bytes s) (so-far s)) (constantAt (bytes s) (so-far s)) _ (node k .is) _ _ (atom l) (t .coefficients (c .if4 .taken)) (t .constants))
-
-returns-6 : tie.Need-returns-6
-returns-6 c =
-    let l = c .before .before .before .before .before .before .before in
-    let k = l .before .before .before .before .before in
-    let s = start k in
-    let t = c .before .before .before .before .take-atom .ensures in
-    read-refused (bytes s) (s .args .depth) (so-far s) _
-    (c .refused3 .ensures ∙ node-beyond (bytes s) (s .args .depth) (so-far s) _ (framed k) (l .before .before .before .if1 .left) (small (l .before)) (atom l) (sym (t .fits) ∙ c .before .if4 .left))
-    _ _ (c .refused3 .ensures)
+    let t = c .before .before .take-atom .ensures in
+    record {
+      answer = node-atom (bytes s) (s .args .depth) (so-far s) _ (framed k) (l .before .before .before .if1 .left) (small (l .before)) (atom l) _ (t .answer);
+      noted = λ code e. noted-atom (so-far s .question) (so-far s .shape) (here s) (coefficientsAt (bytes s) (so-far s)) (constantAt (bytes s) (so-far s)) _ (node k .is) _ _ (atom l) (t .coefficients code e) (t .constants);
+    }
 
 pub node-at-spec : {M : Type 1} → statement M
 node-at-spec =
     tie.close
     (tie.spec (λ c κs. search needs) (λ c. search needs) (λ c. search needs) returns (λ c κs. search needs)
     (λ c κs. search needs) returns-2 (λ c κs. search needs) (λ c κs. search needs) returns-3 slice-write-codes
-    (λ c. search needs) returns-4 add-take-atom take-atom-requires (λ c. search needs) (λ c. search needs)
-    (λ c. search needs) returns-5 (λ c κs. search needs) (λ c. search needs) (λ c. search needs) (λ c. search needs) returns-6)
+    (λ c. search needs) returns-4 take-atom-requires (λ c. search needs) (λ c. search needs)
+    (λ c. search needs) returns-5)

@@ -10,8 +10,8 @@ use Rattle.vectors.proofs.numbers.negated.Tie as tie
 
 sub-result : tie.Need-sub-result
 sub-result c =
-    let size = c .args .size in
+    let size = c .before .args .size in
     rw (toZ-pos w32 size (omega arith)) (fits-abs w32 (pos 0 -ℤ pos size) (omega (arith, abs-sub (pos 0) (pos size))))
 
 pub negated-spec : {M : Type 1} → statement M
-negated-spec = tie.close (tie.spec (λ c. search needs) sub-result (λ c. search needs))
+negated-spec = tie.close (tie.spec (λ c. search needs) sub-result (λ c. search needs) (λ c. search needs) (λ c. search needs))

@@ -8,11 +8,9 @@ abbrev Inv-loop : tie.InvT-loop
 Inv-loop counts kind₀ kind = Unit
 
 abbrev μ-loop : tie.MeasureT-loop
-μ-loop counts kind₀ kind = 7 - kind
+μ-loop counts kind₀ kind = 11 - kind
 
 pub print-kinds-spec : {M : Type 1} → statement M
 print-kinds-spec =
     tie.close
-    (tie.spec Inv-loop μ-loop (λ c. search needs) (λ c κs. search needs) (λ c. search needs) (λ c. search needs)
-    (λ c. search needs) (λ c. search needs) (λ c. search needs) (λ c κs. search needs) (λ c. search needs)
-    (λ c. search needs) (λ c. search needs) (λ c. search needs))
+    (tie.spec Inv-loop μ-loop (λ c. search needs) (λ c. search needs) (λ c. search needs) (λ c. search needs) (λ c. search needs) (λ c. search needs) (λ c κs. search needs) (λ c. search needs) (λ c. search needs) (λ c. search needs) (λ c. search needs))

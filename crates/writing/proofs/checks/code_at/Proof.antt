@@ -11,7 +11,7 @@ use Rattle.scope.specs.Writing.{Walk, nodeHeld}
 use Rattle.records.specs.Formula.{sizeFits}
 use Rattle.records.proofs.Checks.{sized-few}
 use Rattle.writing.specs.Writes.{walkAt}
-use Rattle.writing.proofs.Checking.{fits-alone, code-full, code-kind, code-large, code-plain, code-atom, code-beyond}
+use Rattle.writing.proofs.Checking.{numbers-alone, code-full, code-kind, code-large, code-plain, code-atom}
 use borrow.Author.Needs.{needs}
 use Rattle.writing.proofs.checks.code_at.Statement.{statement}
 use Rattle.writing.proofs.checks.code_at.Tie as tie
@@ -66,8 +66,8 @@ returns-4 c =
     (c .before .before .before .before .before .before .before .if1 .left) (used (c .before .before .before .before)) (size-is (c .before .before) true (not-false _ (c .before .if3 .left)))
     (sym (c .before .before .before .is-atom .ensures) ∙ not-true _ (c .if4 .taken))
 
-atom-fits-requires : tie.Need-atom-fits-requires
-atom-fits-requires c κs =
+atom-at-requires : tie.Need-atom-at-requires
+atom-at-requires c κs =
     let s = c .before .before .before .before .before .before .before .before .before in
     record {
       variables = s .pre .0;
@@ -78,22 +78,16 @@ atom-fits-requires c κs =
 
 returns-5 : tie.Need-returns-5
 returns-5 c =
-    let s = c .before .before .before .before .before .before .before .before .before .before .before in
-    code-atom (held s) (s .args .depth) (walk s)
-    (c .before .before .before .before .before .before .before .before .before .if1 .left) (used (c .before .before .before .before .before .before)) (size-is (c .before .before .before .before) true (not-false _ (c .before .before .before .if3 .left)))
-    (atom (c .before .before)) (sym (fits-alone (held s) (s .args .atoms)) ∙ sym (c .before .atom-fits .ensures) ∙ c .if5 .taken)
-
-returns-6 : tie.Need-returns-6
-returns-6 c =
-    let s = c .before .before .before .before .before .before .before .before .before .before .before .before in
-    c .refused4 .ensures
-    ∙ code-beyond (held s) (s .args .depth) (walk s)
-    (c .before .before .before .before .before .before .before .before .before .before .if1 .left) (used (c .before .before .before .before .before .before .before)) (size-is (c .before .before .before .before .before) true (not-false _ (c .before .before .before .before .if3 .left)))
-    (atom (c .before .before .before)) (sym (fits-alone (held s) (s .args .atoms)) ∙ sym (c .before .before .atom-fits .ensures) ∙ c .before .if5 .left)
+    let s = c .before .before .before .before .before .before .before .before .before .before in
+    c .atom-at .ensures
+    ∙ numbers-alone (held s) (s .args .atoms) (s .args .nodes) _
+    ∙ code-atom (held s) (s .args .depth) (walk s)
+    (c .before .before .before .before .before .before .before .before .if1 .left) (used (c .before .before .before .before .before)) (size-is (c .before .before .before) true (not-false _ (c .before .before .if3 .left)))
+    (atom (c .before))
 
 pub code-at-spec : {M : Type 1} → statement M
 code-at-spec =
     tie.close
     (tie.spec (λ c κs. search needs) returns shared-slice-read-code (λ c κs. search needs) (λ c κs. search needs)
     returns-2 (λ c κs. search needs) (λ c κs. search needs) (λ c κs. search needs) returns-3
-    returns-4 atom-fits-requires returns-5 (λ c κs. search needs) returns-6)
+    returns-4 atom-at-requires returns-5)

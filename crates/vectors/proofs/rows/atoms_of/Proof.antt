@@ -1,8 +1,8 @@
--- `vectors::as_bytes::atoms_of` is safe and ends: what is left of the codes falls. Assumes nothing.
+-- `vectors::rows::atoms_of` is safe and ends: what is left of the codes falls. Assumes nothing.
 use Prim.Native.Nat.{_-_}
 use borrow.Author.Needs.{needs}
-use Rattle.vectors.proofs.as_bytes.atoms_of.Statement.{statement}
-use Rattle.vectors.proofs.as_bytes.atoms_of.Tie as tie
+use Rattle.vectors.proofs.rows.atoms_of.Statement.{statement}
+use Rattle.vectors.proofs.rows.atoms_of.Tie as tie
 
 abbrev Inv-loop : tie.InvT-loop
 Inv-loop bytes codes atoms₀ i₀ atoms i = Unit
