@@ -8,7 +8,8 @@ It prints nothing and exits 0 where all is well; else it prints a line for each 
 3. The head of each group of theory (specs/GROUP.antt) has, above the `pub mod` line of a file, a line `--   name   meaning` for each name of
    that file that is used outside the group, and for no other name.
 4. A name that a line `use M.{..}` brings in is used in the file.
-5. A name in backticks in docs/*.md and README.md is in crates/, include/, rust/ or bench/. A name is one word with a capital or a hyphen.
+5. A name in backticks in docs/ and README.md is in crates/, include/, rust/ or bench/. A name is one word with a capital or a hyphen. A path
+   that begins with crates/ is there, with or without `.antt` or `.edit`.
 6. Each `old:` text of a must-fail edit is in its file exactly once, where the pairs before it are applied.
 """
 import re
@@ -149,12 +150,15 @@ def documents_right(sources):
     for path in (p for folder in ("include", "rust", "bench") for p in Path(folder).glob("**/*")):
         if path.suffix in (".h", ".rs", ".toml") and "target" not in path.parts:
             known.update(re.findall(r"[\w-]+", path.read_text()))
-    for page in [*sorted(Path("docs").glob("*.md")), Path("README.md")]:
+    for page in [*sorted(Path("docs").glob("**/*.md")), Path("README.md")]:
         text = re.sub(r"^```.*?^```", lambda block: "\n" * block[0].count("\n"), page.read_text(), flags=re.M | re.S)
         for number, line in enumerate(text.split("\n"), 1):
             for name in re.findall(r"`([^`\s]+)`", line):
                 if re.fullmatch(r"[^\W\d]\w*(-\w+)*", name) and re.search(r"[A-Z-]", name) and name not in known:
                     fault(f"{page}:{number}", f"`{name}` is no name of the project")
+            for path in re.findall(r"crates/[\w/.-]*\w", line):
+                if "NAME" not in path and not any(Path(path + end).exists() for end in ("", ".antt", ".edit")):
+                    fault(f"{page}:{number}", f"{path} is not there")
 
 
 def edits_right():
