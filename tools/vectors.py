@@ -3,8 +3,8 @@
 A file of VECTORS has one call a line with its outcome, which stands behind a `=` where every lent cell is told. Of each
 file, call and outcome (for a refusal: of each number) the lines that are the quickest to compute are taken, as many as
 WANTED says, and of reading and writing the longest one too. The questions of the lines that were read or judged are put
-as trees besides, taken out of their bytes here. Lines whose cells are told by a hash, and those of the asking program,
-are left to crates/vectors and bench/.
+as trees besides, taken out of their bytes here. Lines whose cells are told by a hash or whose word has no room, and
+those of the asking program, are left to crates/vectors and bench/.
 """
 import sys
 

@@ -1,4 +1,4 @@
--- The edges of document 01, worked by hand: of two checks that both fail the earlier one counts, each limit and the first number
+-- The edges of document 01, and of document 02, E1, worked by hand: of two checks that both fail the earlier one counts, each limit and the first number
 -- beyond it, of bytes and of trees, and running, which the outside vectors leave out. One table, one claim.
 use Prim.Native.Nat.{ℕ, zero, suc, _-_}
 use mathlib.Core.Path.{_≡_, refl}

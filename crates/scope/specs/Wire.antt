@@ -1,4 +1,4 @@
--- Document 01, "A question on the wire": records, what is due, the checks at each record, and reading a question whole.
+-- Document 01, "A question on the wire", with document 02, E1: records, what is due, the checks at each record, and reading a question whole.
 use Prim.Native.Nat.{ℕ, zero, suc, _+_, _*_}
 use mathlib.Core.Bool.{Bool, true, false, not, cond, _||_}
 use mathlib.Core.Option.{Option, none, some}
@@ -123,7 +123,7 @@ placeCheck place s = check TOO-MANY place (ltb (s .nodes) mostNodes)
 abbrev pub sizeChecks : ℕ → Node → ℕ → Shape → List Check → List Check
 sizeChecks place x depth s later = check TOO-MANY place (not (isAtom x) || ltb (s .atoms) mostAtoms) ∷ check TOO-MANY place (leb depth mostDepth) ∷ later
 
--- an atom's numbers in field order, the coefficients and then the constant: the first at `place`, each next one `apart` further on
+-- an atom's numbers in field order (E1), the coefficients and then the constant: the first at `place`, each next one `apart` further on
 unfoldable pub fieldChecks : ℕ → ℕ → List ℤ → ℤ → List Check
 fieldChecks place apart [] constant = check CONSTANT-BEYOND place (constantFits constant) ∷ []
 fieldChecks place apart (a ∷ coefficients) constant = check COEFFICIENT-BEYOND place (coefficientFits a) ∷ fieldChecks (place + apart) apart coefficients constant

@@ -1,4 +1,4 @@
--- Document 01, "A question on the wire", of writing a held question: its checks in their order, the bytes, and the buffer after.
+-- Document 01, "A question on the wire", with document 02, E1, of writing a held question: its checks in their order, the bytes, and the buffer after.
 use Prim.Native.Nat.{ℕ, zero, suc, _+_, _/_, _%_, _-_}
 use mathlib.Core.Bool.{Bool, true, false, not, cond, _||_, _&&_}
 use mathlib.Core.List.{List, [], _∷_, _++_, map}

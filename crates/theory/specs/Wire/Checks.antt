@@ -8,6 +8,7 @@ use mathlib.Core.List.{List, [], _∷_, _++_}
 use Prim.Native.Nat.{ℕ, zero, suc}
 use native.Mathlib.Omega.{arith}
 use lib.Dec.{T}
+use lib.Ieee.Bits.{is-true}
 use Rattle.scope.specs.declared.Refusal.{Refusal}
 use Rattle.scope.specs.Refusals.{Check, refusal, unlessPassed, firstRefusal, Progress, stopped, going, ended, orStopped, onward}
 
@@ -34,10 +35,6 @@ pub was-asked : (a b : Bool) → T (not a || b) → T a → T b
 was-asked true b t u = t
 was-asked false b t u = absurd u
 
-pub T-true : (a : Bool) → T a → a ≡ true
-T-true true t = refl
-T-true false t = absurd t
-
 -- ---- every check was passed
 
 abbrev pub Passed : List Check → Type 0
@@ -47,7 +44,7 @@ Passed (c ∷ cs) = T (c .passed) × Passed cs
 pub passed-none : (cs : List Check) → Passed cs → firstRefusal cs ≡ none
 unfolding firstRefusal
 passed-none [] p = refl
-passed-none (c ∷ cs) p = rw (T-true (c .passed) (p .0)) (passed-none cs (p .1))
+passed-none (c ∷ cs) p = rw (is-true (c .passed) (p .0)) (passed-none cs (p .1))
 
 none-cons : (t : Bool) (r : Refusal) (later : Option Refusal) → unlessPassed t r later ≡ none → T t × (later ≡ none)
 none-cons true r later e = (tt, e)
@@ -101,7 +98,7 @@ pub failing-at : (before : List Check) (c : Check) (after : List Check) → Pass
     → firstRefusal (before ++ (c ∷ after)) ≡ some (refusal (c .number) (c .place))
 unfolding firstRefusal
 failing-at [] c after p f = rw f
-failing-at (b ∷ before) c after p f = rw (T-true (b .passed) (p .0)) (failing-at before c after (p .1) f)
+failing-at (b ∷ before) c after p f = rw (is-true (b .passed) (p .0)) (failing-at before c after (p .1) f)
 
 failing-some : (cs : List Check) (r : Refusal) → FirstFailing cs r → firstRefusal cs ≡ some r
 failing-some cs r f = ap firstRefusal (f .order) ∙ failing-at (f .before) (f .failing) (f .after) (f .earlier) (f .failed) ∙ ap some (sym (f .told))
@@ -125,7 +122,7 @@ failing-append (c ∷ cs) ds r e = failing-cons c cs ds r (c .passed) refl (fail
 pub passed-append : (cs ds : List Check) → Passed cs → firstRefusal (cs ++ ds) ≡ firstRefusal ds
 unfolding firstRefusal
 passed-append [] ds p = refl
-passed-append (c ∷ cs) ds p = rw (T-true (c .passed) (p .0)) (passed-append cs ds (p .1))
+passed-append (c ∷ cs) ds p = rw (is-true (c .passed) (p .0)) (passed-append cs ds (p .1))
 
 -- what holds of the number of every check holds of a refusal's
 abbrev pub EveryNumber : (ℕ → Type 0) → List Check → Type 0

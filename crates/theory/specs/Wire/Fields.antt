@@ -7,6 +7,7 @@ use mathlib.Core.List.{List, [], _∷_}
 use Prim.Native.Nat.{ℕ, zero, suc, _+_, _*_, _≤_, _<_}
 use native.Mathlib.Omega.{arith}
 use lib.Dec.{T}
+use lib.Ieee.Bits.{is-true}
 use lib.IntN.{ℤ, pos}
 use lib.ListN.{length, getD}
 use Rattle.scope.specs.declared.Refusal.{Refusal}
@@ -15,7 +16,7 @@ use Rattle.scope.specs.Sizes.{coefficientFits, constantFits, numbersFit}
 use Rattle.scope.specs.Refusals.{COEFFICIENT-BEYOND, CONSTANT-BEYOND, check, refusal, unlessPassed, firstRefusal}
 use Rattle.scope.specs.Wire.{fieldChecks}
 use Rattle.theory.specs.Numbers.Tests.{all-each}
-use Rattle.theory.specs.Wire.Checks.{Passed, EveryNumber, and-first, and-second, and-both, T-true}
+use Rattle.theory.specs.Wire.Checks.{Passed, EveryNumber, and-first, and-second, and-both}
 
 -- ---- every number is within its limit
 
@@ -74,7 +75,7 @@ module _ (apart : ℕ) (k : ℤ) where
   coefficient-refused place (a ∷ cs) zero f h = let z : place + apart * 0 ≡ place = omega arith in rw (f .beyond h, z)
   coefficient-refused place (a ∷ cs) (suc j) f h =
       let z : place + apart * suc j ≡ place + apart + apart * j = omega arith in
-      rw (T-true (coefficientFits a) (f .earlier 0 (omega arith)), z) (coefficient-refused (place + apart) cs j (fit-tail a cs j f) (omega arith))
+      rw (is-true (coefficientFits a) (f .earlier 0 (omega arith)), z) (coefficient-refused (place + apart) cs j (fit-tail a cs j f) (omega arith))
 
   pub constant-left : (place : ℕ) (cs : List ℤ) (j : ℕ) → FitTo cs j → length cs ≤ j → firstRefusal (fieldChecks place apart cs k) ≡ firstRefusal (check CONSTANT-BEYOND (place + apart * length cs) (constantFits k) ∷ [])
   unfolding firstRefusal fieldChecks
@@ -82,7 +83,7 @@ module _ (apart : ℕ) (k : ℤ) where
   constant-left place (a ∷ cs) zero f h = absurd (omega arith)
   constant-left place (a ∷ cs) (suc j) f h =
       let z : place + apart * suc (length cs) ≡ place + apart + apart * length cs = omega arith in
-      rw (T-true (coefficientFits a) (f .earlier 0 (omega arith)), z) (constant-left (place + apart) cs j (fit-tail a cs j f) (omega arith))
+      rw (is-true (coefficientFits a) (f .earlier 0 (omega arith)), z) (constant-left (place + apart) cs j (fit-tail a cs j f) (omega arith))
 
 -- ---- which number is refused
 

@@ -103,7 +103,7 @@ module _ (b : List ℕ) (at : ℕ) where
       pub atom : AtomReached
       pub named : NamesNumber (atom .reading .place + 4) 4 (coefficientsAt b (atom .reading)) (constantAt b (atom .reading)) ρ
 
-    -- the head is there, with another n
+    -- the head is there, and its n is beyond its limit
     pub record StoppedByVariables : Type 0 where
       pub before : Passed (frameChecks b at (eqb (kindAt b at) headKind) 1 [])
       pub beyond : variablesFit (byteAt b (at + 4)) ≡ false
