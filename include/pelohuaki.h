@@ -10,7 +10,8 @@
  * length 0 it may be NULL. No buffer that a call writes may overlap another buffer of the same call; those that it only reads may
  * overlap each other. A call touches no other memory, takes no heap, and keeps nothing after it has returned: calls may run at the
  * same time on several threads, each with written buffers of its own. On the stack pelohuaki_decide and pelohuaki_build take 263 KiB
- * each, for small questions too (docs/BENCHMARKS.md): a thread of less has to be given more. The other calls take less than 4 KiB.
+ * each, for small questions too (docs/BENCHMARKS.md), and pelohuaki_import less than 100 KiB, for a text that is nested as deep as
+ * it may be: a thread of less has to be given more. The other calls take less than 4 KiB.
  *
  * ANSWERS. A call returns a refusal number, 0 where nothing is refused. The rest of its answer is in the cells of `told`, the place
  * first. As many of a call's cells are written as are lent, and no others: a caller who needs none of them lends none. A refused
@@ -47,11 +48,15 @@
  *   11   a malformed table                                     nothing written
  *   12   a coefficient beyond its limit                        every lent buffer unchanged
  *   13   a constant beyond its limit                           the same
+ *   14   a text that is not well formed                        the same
+ *   15   a text outside the subset                             the same
  *
  * "Unchanged" and "nothing written" are of the buffers beside `told`. The place is the first byte of the record that was refused,
  * for 12 and 13 that of the number itself, for 6 the byte that is left over; in writing, the index of the node, or 64 where only a
  * number is left over; and 0 for 7 to 11, for n in writing, and for 4 in running and spelling. Of an atom's numbers the first that
- * is beyond its limit counts, the constant being the last.
+ * is beyond its limit counts, the constant being the last. In importing it is a byte of the text: for 14 the first that cannot go
+ * on, or the end; for 15 and 4 the first byte of what is refused, or the end where a form is missing; for 5, 12 and 13 the first
+ * byte of the comparison or connective.
  */
 #ifndef PELOHUAKI_H
 #define PELOHUAKI_H
@@ -97,7 +102,9 @@ enum pelohuaki_refusal {
     PELOHUAKI_LETTER = 10,
     PELOHUAKI_TABLE = 11,
     PELOHUAKI_COEFFICIENT_BEYOND = 12,
-    PELOHUAKI_CONSTANT_BEYOND = 13
+    PELOHUAKI_CONSTANT_BEYOND = 13,
+    PELOHUAKI_NOT_WELL_FORMED = 14,
+    PELOHUAKI_OUTSIDE_SUBSET = 15
 };
 
 enum pelohuaki_verdict {
@@ -152,6 +159,15 @@ uint64_t pelohuaki_read(const uint8_t *bytes, size_t bytes_len, uint8_t *codes, 
 uint64_t pelohuaki_write(uint8_t n, const uint8_t *codes, size_t codes_len, const int32_t *coefficients, size_t coefficients_len,
                          const int32_t *constants, size_t constants_len, uint8_t *bytes, size_t bytes_len, uint64_t *told,
                          size_t told_len);
+
+/*
+ * Imports the question of a text in SMT-LIB 2.6, logic QF_LIA, into the parts of a held question, as pelohuaki_read does: a subset
+ * of set-logic, declare-const of sort Int, assert and check-sat, which docs/SCOPE.md has. The variables are the names as declared.
+ * told: place, n, then of each of six variables where its name starts in the text and where it ends, without its bars; 0 for those
+ * past n. Refusals: 14, 15, 4, 5, 12, 13.
+ */
+uint64_t pelohuaki_import(const uint8_t *text, size_t text_len, uint8_t *codes, size_t codes_len, int32_t *coefficients,
+                          size_t coefficients_len, int32_t *constants, size_t constants_len, uint64_t *told, size_t told_len);
 
 /*
  * Whether n values, in variable order, satisfy the question.
@@ -210,6 +226,32 @@ static inline uint64_t pelohuaki_read_question(const uint8_t *bytes, size_t byte
                                      PELOHUAKI_ATOMS * PELOHUAKI_VARIABLES, question->constants, PELOHUAKI_ATOMS, told, 2);
     if (number == 0) {
         question->n = (uint8_t)told[1];
+    }
+    *place = told[0];
+    return number;
+}
+
+/* A variable's name: that stretch of the text. */
+struct pelohuaki_name {
+    size_t start;
+    size_t end;
+};
+
+/* As pelohuaki_import. Where it is refused, the question is unchanged and every name is empty. */
+static inline uint64_t pelohuaki_import_question(const uint8_t *text, size_t text_len, struct pelohuaki_question *question,
+                                                 struct pelohuaki_name names[PELOHUAKI_VARIABLES], uint64_t *place)
+{
+    uint64_t told[2 + 2 * PELOHUAKI_VARIABLES];
+    uint64_t number = pelohuaki_import(text, text_len, question->codes, PELOHUAKI_NODES, &question->coefficients[0][0],
+                                       PELOHUAKI_ATOMS * PELOHUAKI_VARIABLES, question->constants, PELOHUAKI_ATOMS, told,
+                                       2 + 2 * PELOHUAKI_VARIABLES);
+    size_t i;
+    if (number == 0) {
+        question->n = (uint8_t)told[1];
+    }
+    for (i = 0; i < PELOHUAKI_VARIABLES; i++) {
+        names[i].start = (size_t)told[2 + 2 * i];
+        names[i].end = (size_t)told[3 + 2 * i];
     }
     *place = told[0];
     return number;

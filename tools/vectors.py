@@ -1,15 +1,18 @@
-"""Writes the tables of crates/samples/specs/Vectors.antt from outside vectors: python3 tools/vectors.py VECTORS..
+"""Writes the tables of crates/samples/specs/Vectors.antt and Imports.antt from outside vectors: python3 tools/vectors.py VECTORS..
 
 A file of VECTORS has one call a line with its outcome, which stands behind a `=` where every lent cell is told. Of each
 file, call and outcome (for a refusal: of each number) the lines that are the quickest to compute are taken, as many as
 WANTED says, and of reading and writing the longest one too. The questions of the lines that were read or judged are put
 as trees besides, taken out of their bytes here. Lines whose cells are told by a hash or whose word has no room, and
 those of the asking program, are left to crates/vectors and bench/.
+
+Lines of importing go to Imports.antt: of each outcome the shortest texts, and the longest one of at most 600 bytes.
 """
 import sys
 
 FILE = "crates/samples/specs/Vectors.antt"
-# what stands in FILE up to this line stays
+IMPORTS = "crates/samples/specs/Imports.antt"
+# what stands in a file up to this line stays
 MARK = "-- ---- the vectors, as tools/vectors.py writes them\n"
 
 WANTED = {
@@ -24,6 +27,7 @@ WANTED = {
     "decideCells found": 4, "decideCells never": 2, "decideCells no-room": 3, "decideCells refused": 1,
     "buildCells built": 3, "buildCells no-room": 3, "buildCells refused": 1,
 }
+IMPORTS_WANTED = {"held": 12, "refused": 6}
 # where the outcome stands in a line of each call
 OUTCOME = {"read": 2, "write": 6, "record": 3, "judge": 3, "decide": 4, "build": 3, "spell": 4, "decideCells": 5, "buildCells": 4}
 # the calls whose lines are put apart: a line of Outcomes has no room for them
@@ -171,9 +175,33 @@ def cost(words):
     return search + len(" ".join(words))
 
 
+def imports_of(path):
+    groups = {}
+    for text in open(path):
+        words = text.split()
+        if words[0] == "import":
+            groups.setdefault((words[2], words[3] if words[2] == "refused" else ""), []).append(words)
+    for (said, _), lines in sorted(groups.items()):
+        lines = sorted((words for words in lines if len(octets_of(words[1])) <= 600), key=lambda words: len(words[1]))
+        taken = lines[:IMPORTS_WANTED[said]]
+        yield from taken + [lines[-1]] * (lines[-1] not in taken)
+
+
+def import_line(words):
+    if words[2] == "refused":
+        return f"    bytesLine {octets(words[1])} (refusedBy {words[3]} {words[4]}) ∷"
+    n, codes, coefficients, constants = words[3:]
+    return "    bytesLine {} (acceptedAs {} {} {} {}) ∷".format(
+        octets(words[1]), n, joined(unpadded(naturals(codes))),
+        joined(unpadded([whole(x) for x in naturals(coefficients)])),
+        joined(unpadded([whole(x) for x in naturals(constants)])))
+
+
 def lines_of(path):
     for text in open(path):
         words = text.split()
+        if words[0] == "import":
+            continue
         if "=" in words:
             words.remove("=")
             if words[0] in ("decide", "build"):
@@ -214,3 +242,8 @@ if __name__ == "__main__":
             claim = f"allIn {call}Vectors ≡ allWanted {call}Vectors" if kind else f"allGiven {call}Vectors ≡ wanted {call}Vectors"
             out.write(f"\nabbrev {call}Vectors : {lists}\n{call}Vectors =\n" + "\n".join(lines) + "\n    []\n")
             out.write(f"\npub {call}-vectors-hold : {claim}\nunfolding running\n{call}-vectors-hold = refl\n")
+    head = open(IMPORTS).read().split(MARK)[0]
+    with open(IMPORTS, "w") as out:
+        lines = [import_line(words) for path in sys.argv[1:] for words in imports_of(path)]
+        out.write(head + MARK + "\nabbrev importVectors : List TextLine\nimportVectors =\n" + "\n".join(lines) + "\n    []\n")
+        out.write("\npub import-vectors-hold : textsGiven importVectors ≡ textsWanted importVectors\nunfolding importing\nimport-vectors-hold = refl\n")

@@ -6,6 +6,7 @@
 use crate::reading::{Building, Decision, Question, Record, Refusal};
 use pelohuaki::lent;
 use std::io::Write;
+use std::ops::Range;
 use std::process::{Command, Stdio};
 use std::sync::Mutex;
 
@@ -49,6 +50,20 @@ pub fn read(bytes: &[u8]) -> Result<Question, Refusal> {
     assert!(read.is_ok() || after == before, "a refused question's parts");
     let ([codes @ .., 77], [coefficients @ .., 77], [constants @ .., 77]) = after else { panic!("cells past the parts") };
     read.map(|[n]| Question { n: n as u8, codes, coefficients, constants })
+}
+
+/// The same of a text, and where each variable's name stands in it. Behind the last name 0 is told.
+pub fn import(text: &[u8]) -> Result<(Question, Vec<Range<usize>>), Refusal> {
+    let before = ([77; 65], [77; 49], [77; 9]);
+    let mut after = before;
+    let import = answer(|told| lent::import(text, &mut after.0, &mut after.1, &mut after.2, told));
+    assert!(import.is_ok() || after == before, "a refused text's parts");
+    let ([codes @ .., 77], [coefficients @ .., 77], [constants @ .., 77]) = after else { panic!("cells past the parts") };
+    let [n, bounds @ ..]: [usize; 13] = import?;
+    let (bounds, rest) = bounds.split_at(2 * n);
+    assert!(rest.iter().all(|&bound| bound == 0), "bounds past the names");
+    let names = bounds.chunks(2).map(|bounds| bounds[0]..bounds[1]).collect();
+    Ok((Question { n: n as u8, codes, coefficients, constants }, names))
 }
 
 pub fn write(question: &Question, buffer: &mut [u8]) -> Result<usize, Refusal> {

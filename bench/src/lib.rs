@@ -6,8 +6,11 @@ pub mod count;
 #[cfg(feature = "proved")]
 pub mod exported;
 pub mod generate;
+pub mod generate_text;
+pub mod import;
 pub mod met;
 pub mod plain;
+pub mod plain_import;
 #[cfg(feature = "proved")]
 pub mod proved;
 pub mod reading;

@@ -5,8 +5,9 @@
 //! `bench repeat SIDE LINE REPEATS` does the work of one line for one side so often, and prints nothing: instructions are counted of that.
 
 use pelohuaki_bench::generate::{never_accepting, Random};
+use pelohuaki_bench::generate_text::{text_of, Style};
 use pelohuaki_bench::reading::{Building, Decision, Question, Refusal};
-use pelohuaki_bench::{clock, count, plain, reading, smt, vectors};
+use pelohuaki_bench::{clock, count, plain, plain_import, reading, smt, vectors};
 use std::env;
 use std::hint::black_box;
 
@@ -15,6 +16,7 @@ trait Calls {
     type Held: 'static;
     fn read(bytes: &[u8]) -> Option<Self::Held>;
     fn write(question: &Self::Held, buffer: &mut [u8]) -> usize;
+    fn import(text: &[u8]) -> Option<Self::Held>;
     fn judge(bytes: &[u8], values: &[u64]) -> Result<bool, Refusal>;
     fn decide(bytes: &[u8], keys: &mut [i32], path: &mut [u16], word: &mut [u8]) -> Decision;
     fn build(bytes: &[u8], keys: &mut [i32], table: &mut [u16]) -> Building;
@@ -30,6 +32,9 @@ impl Calls for Plain {
     }
     fn write(question: &Question, buffer: &mut [u8]) -> usize {
         plain::write(question, buffer).unwrap_or(0)
+    }
+    fn import(text: &[u8]) -> Option<Question> {
+        plain_import::import(text).ok()
     }
     fn judge(bytes: &[u8], values: &[u64]) -> Result<bool, Refusal> {
         plain::judge(bytes, values)
@@ -57,6 +62,9 @@ impl Calls for Proved {
     fn write(question: &pelohuaki::Question, buffer: &mut [u8]) -> usize {
         pelohuaki::write(question, buffer).unwrap_or(0)
     }
+    fn import(text: &[u8]) -> Option<pelohuaki::Question> {
+        pelohuaki::import(text).ok().map(|imported| imported.question)
+    }
     fn judge(bytes: &[u8], values: &[u64]) -> Result<bool, Refusal> {
         pelohuaki_bench::proved::judge(bytes, values)
     }
@@ -82,6 +90,10 @@ fn writing<C: Calls>(questions: &[Vec<u8>]) -> Round<'_> {
     let held: Vec<C::Held> = questions.iter().map(|question| C::read(question).expect("a question")).collect();
     let mut buffer = [0; 512];
     Box::new(move || held.iter().map(|held| C::write(black_box(held), black_box(&mut buffer))).sum())
+}
+
+fn importing<C: Calls>(texts: &[Vec<u8>]) -> Round<'_> {
+    Box::new(move || texts.iter().map(|text| black_box(C::import(black_box(text))).is_some() as usize).sum())
 }
 
 /// With values up to the judge's limit.
@@ -142,6 +154,8 @@ const LONG: usize = 1_000_000;
 enum Work {
     Read(Vec<Vec<u8>>),
     Written(Vec<Vec<u8>>),
+    /// Texts.
+    Imported(Vec<Vec<u8>>),
     Judged(Vec<Vec<u8>>),
     Decided(Vec<Vec<u8>>),
     Built(Vec<Vec<u8>>),
@@ -154,6 +168,7 @@ impl Work {
         match self {
             Work::Read(questions) => reading::<C>(questions),
             Work::Written(questions) => writing::<C>(questions),
+            Work::Imported(texts) => importing::<C>(texts),
             Work::Judged(questions) => judging::<C>(questions),
             Work::Decided(questions) => deciding::<C>(questions),
             Work::Built(questions) => building::<C>(questions),
@@ -175,6 +190,7 @@ impl Work {
     fn units(&self) -> (usize, &'static str) {
         match self {
             Work::Read(questions) | Work::Written(questions) | Work::Judged(questions) => (questions.len(), "questions"),
+            Work::Imported(texts) => (texts.iter().map(Vec::len).sum(), "bytes"),
             Work::Decided(questions) => {
                 let (mut keys, mut path, mut word) = areas();
                 let mut tried = |question: &Vec<u8>| {
@@ -215,12 +231,23 @@ fn lines() -> Vec<(String, Work)> {
     }
     lines.push((format!("{count} list blocks read"), Work::Read(blocks.clone())));
     lines.push((format!("{count} list blocks written"), Work::Written(blocks.clone())));
+    let mut random = Random::new(3);
+    let text = |question: &Vec<u8>| text_of(&mut random, &reading::read(question).expect("a question"), Style::Tame).bytes;
+    lines.push((format!("{count} list blocks imported"), Work::Imported(blocks.iter().map(text).collect())));
+    lines.push(("a long text imported".into(), Work::Imported(vec![long_text()])));
     lines.push((format!("{count} list blocks judged, their reading included"), Work::Judged(blocks)));
     for (question, states) in [(five, 9), (coconuts, 25_090), (never_accepting(254, 256), Question::STATES)] {
         let work = format!("{} letters run, {} rows of {} cells", grouped(LONG), grouped(states), 1 + letters(&question));
         lines.push((work, Work::Run(question, states)));
     }
     lines
+}
+
+/// A text of a megabyte that is accepted: one inequality whose sides have many parts.
+fn long_text() -> Vec<u8> {
+    let parts = "(* 2 x) y 1 ".repeat(40_000);
+    let names = "(declare-const x Int)(declare-const y Int)(assert (>= x 0))(assert (>= y 0))";
+    format!("(set-logic QF_LIA){names}(assert (<= (+ {parts}) (+ {parts} y)))(check-sat)").into_bytes()
 }
 
 /// A number with its thousands apart.

@@ -3,6 +3,7 @@
 #![forbid(unsafe_code)]
 
 use crate::reading::{Building, Decision, Question, Record, Refusal};
+use std::ops::Range;
 
 fn refusal(refusal: pelohuaki::Refusal) -> Refusal {
     Refusal { number: refusal.number(), place: refusal.place }
@@ -32,6 +33,13 @@ pub fn next_record<'b>(place: &mut pelohuaki::Place<'b>) -> Result<Record<'b>, R
 
 pub fn read(bytes: &[u8]) -> Result<Question, Refusal> {
     pelohuaki::read(bytes).map(held).map_err(refusal)
+}
+
+/// The question of a text, and where each variable's name stands in it.
+pub fn import(text: &[u8]) -> Result<(Question, Vec<Range<usize>>), Refusal> {
+    let imported = pelohuaki::import(text).map_err(refusal)?;
+    let names = imported.names().to_vec();
+    Ok((held(imported.question), names))
 }
 
 pub fn write(question: &Question, buffer: &mut [u8]) -> Result<usize, Refusal> {

@@ -4,6 +4,7 @@ use std::fmt::{Debug, Display};
 
 pub const BASE: &str = include_str!("../../crates/vectors/data/base.txt");
 pub const E1: &str = include_str!("../../crates/vectors/data/e1.txt");
+pub const E2: &str = include_str!("../../crates/vectors/data/e2.txt");
 pub const BLOCKS: &[u8] = include_bytes!("../data/blocks.bin");
 pub const BLOCK_LINES: &str = include_str!("../data/blocks.txt");
 pub const COCONUTS: &[u8] = include_bytes!("../data/coconuts.bin");

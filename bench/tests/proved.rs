@@ -4,9 +4,10 @@
 
 use pelohuaki::{lent, Place};
 use pelohuaki_bench::generate::*;
+use pelohuaki_bench::generate_text::any_text;
 use pelohuaki_bench::met::{building_name, decision_name, name, Met};
 use pelohuaki_bench::reading::{self, Building, Decision, Question, Refusal, Written};
-use pelohuaki_bench::{plain, proved};
+use pelohuaki_bench::{import, plain, proved};
 use std::fmt::Debug;
 use std::io::Write;
 
@@ -53,6 +54,10 @@ struct Told(Lent<u64>);
 impl Told {
     fn new(random: &mut Random) -> Told {
         let lent = random.pick(&[0, 1, 2, 3, 4, 5, 5, 5, 6, 9]);
+        Told::cells(random, lent)
+    }
+
+    fn cells(random: &mut Random, lent: usize) -> Told {
         Told(Lent::new(&(0..lent).map(|_| random.next()).collect::<Vec<u64>>()))
     }
 
@@ -163,6 +168,46 @@ fn read() {
         met.meet(name(answer, |_| "accepted"));
     }
     tell("read", &met, &["accepted", "1", "2", "3", "4", "5", "6", "12", "13"]);
+}
+
+#[test]
+fn imports() {
+    let mut random = Random::new(110);
+    let mut met = Met::default();
+    for _ in 0..INPUTS {
+        let mut text = Lent::new(&any_text(&mut random));
+        let answer = import::imported(text.cells());
+        let names = import::bare_names(text.cells());
+        let both = answer.clone().and_then(|question| Ok((question, names.clone()?)));
+        assert_eq!(proved::import(text.cells()), both);
+
+        let (codes, coefficients, constants) = (length(&mut random, 64), length(&mut random, 48), length(&mut random, 8));
+        let mut codes = Lent::new(&cells8(&mut random, codes));
+        let mut coefficients = Lent::new(&cells32(&mut random, coefficients));
+        let mut constants = Lent::new(&cells32(&mut random, constants));
+        let (mut codes_then, mut coefficients_then, mut constants_then) =
+            (codes.cells().to_vec(), coefficients.cells().to_vec(), constants.cells().to_vec());
+        let mut values = [0; 13];
+        if let Ok((question, names)) = &both {
+            codes_then.iter_mut().zip(question.codes).for_each(|(cell, part)| *cell = part);
+            coefficients_then.iter_mut().zip(question.coefficients).for_each(|(cell, part)| *cell = part);
+            constants_then.iter_mut().zip(question.constants).for_each(|(cell, part)| *cell = part);
+            values[0] = question.n as usize;
+            for (cells, name) in values[1..].chunks_mut(2).zip(names) {
+                cells.copy_from_slice(&[name.start, name.end]);
+            }
+        }
+        let lent = length(&mut random, 14);
+        let mut told = Told::cells(&mut random, lent);
+        let number = lent::import(text.cells(), codes.cells(), coefficients.cells(), constants.cells(), told.0.cells());
+        codes.holds(&codes_then);
+        coefficients.holds(&coefficients_then);
+        constants.holds(&constants_then);
+        text.unchanged();
+        told.says(number, both.err(), &values);
+        met.meet(name(answer, |_| "held"));
+    }
+    tell("import", &met, &["held", "4", "5", "12", "13", "14", "15"]);
 }
 
 /// A part of a held question, lent in some length, and as it then counts: 0 where it is not lent, and no further than its size.

@@ -4,7 +4,7 @@
 use pelohuaki_bench::met::Met;
 use pelohuaki_bench::reading::*;
 use pelohuaki_bench::vectors::*;
-use pelohuaki_bench::{plain, reading};
+use pelohuaki_bench::{import, plain, plain_import, reading};
 
 type Read = fn(&[u8]) -> Result<Question, Refusal>;
 type Write = fn(&Question, &mut [u8]) -> Result<usize, Refusal>;
@@ -14,6 +14,7 @@ type Decide = fn(&[u8], &mut [i32], &mut [u16], &mut [u8]) -> Decision;
 type Build = fn(&[u8], &mut [i32], &mut [u16]) -> Building;
 type Spell = fn(usize, usize, &[u8]) -> Result<u64, Refusal>;
 type Ask = fn(&[u8]) -> String;
+type Import = fn(&[u8]) -> Result<Question, Refusal>;
 
 /// Whom lines are put to: its calls, of which it may lack some.
 struct Side {
@@ -26,6 +27,7 @@ struct Side {
     build: Build,
     spell: Option<Spell>,
     ask: Option<Ask>,
+    import: Option<Import>,
 }
 
 const READING: Side = Side {
@@ -53,6 +55,7 @@ const READING: Side = Side {
     },
     spell: Some(reading::spell),
     ask: Some(reading::ask),
+    import: Some(import::imported),
 };
 
 const PLAIN: Side = Side {
@@ -65,6 +68,7 @@ const PLAIN: Side = Side {
     build: plain::build,
     spell: None,
     ask: None,
+    import: Some(plain_import::import),
 };
 
 #[cfg(feature = "proved")]
@@ -80,6 +84,7 @@ const PROVED: Side = {
         build: exported::build,
         spell: Some(exported::spell),
         ask: Some(exported::ask),
+        import: Some(|text| exported::import(text).map(|(question, _)| question)),
     }
 };
 
@@ -124,6 +129,7 @@ fn put_to(side: &Side, line: &Line) {
         "build" => build(line, side.build),
         "spell" => side.spell.into_iter().for_each(|call| spell(line, call)),
         "ask" => side.ask.into_iter().for_each(|call| ask(line, call)),
+        "import" => side.import.into_iter().for_each(|call| import(line, call)),
         other => panic!("no such call: {other}"),
     }
 }
@@ -137,6 +143,12 @@ fn base() {
 #[test]
 fn e1() {
     put(E1, "ask: 20, build: 20, decide: 30, judge: 30, read: 120, record: 20, write: 80");
+}
+
+#[test]
+fn e2() {
+    let lines: Vec<String> = E2.lines().map(completed).collect();
+    put(&lines.join("\n"), "import: 500");
 }
 
 // One call each
@@ -251,7 +263,16 @@ fn ask(line: &Line, call: Ask) {
     assert_eq!(call(&bytes(input)), line.answer().replace('|', "\n") + "\n");
 }
 
-/// A line of base.txt in the form of the later files. It says rows where these say cells, no place with a refusal of judging or spelling (it is 0), and
+fn import(line: &Line, call: Import) {
+    let [text] = line.arguments();
+    let said = match call(&bytes(text)) {
+        Ok(held) => format!("held {} {} {} {}", held.n, listed(&held.codes), listed(&held.coefficients), listed(&held.constants)),
+        Err(refusal) => refused(refusal),
+    };
+    assert_eq!(said, line.answer());
+}
+
+/// A line of base.txt or e2.txt in the form of the other files. That of base.txt says rows where these say cells, no place with a refusal of judging or spelling (it is 0), and
 /// not what deciding leaves in the key and path areas, nor building in the key area: for that the reading is asked.
 fn completed(line: &str) -> String {
     let fields: Vec<&str> = line.split_whitespace().collect();
@@ -280,7 +301,8 @@ fn completed(line: &str) -> String {
         }
         ["spell", n, variable, word, "refused", number] => format!("spell {n} {variable} {word} = refused {number} 0"),
         ["spell", n, variable, word, "value", value] => format!("spell {n} {variable} {word} = value {value}"),
-        _ => panic!("no line of base.txt: {line}"),
+        ["import", text, outcome @ ..] => format!("import {text} = {}", outcome.join(" ")),
+        _ => panic!("no line of base.txt or e2.txt: {line}"),
     }
 }
 

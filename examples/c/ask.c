@@ -74,6 +74,31 @@ static void write_and_read(uint8_t *bytes, size_t room)
     expect_cells("  constants", held.constants, question.constants, sizeof held.constants);
 }
 
+static void import_text(void)
+{
+    static const char text[] = "(set-logic QF_LIA)(declare-const x Int)(declare-const |the rest| Int)(assert (>= x 0))"
+                               "(assert (>= |the rest| 0))(assert (= (+ (* 5 x) |the rest|) 3))(check-sat)";
+    const uint8_t *bytes = (const uint8_t *)text;
+    size_t len = sizeof text - 1;
+    struct pelohuaki_question question = question_of_example();
+    struct pelohuaki_question imported;
+    struct pelohuaki_name names[PELOHUAKI_VARIABLES];
+    uint64_t place;
+
+    memset(&imported, 0xAA, sizeof imported);
+    expect("import of an open list: refused", pelohuaki_import_question(bytes, len - 1, &imported, names, &place), PELOHUAKI_NOT_WELL_FORMED);
+    expect("  place, the end", place, len - 1);
+    expect("import without check-sat: refused", pelohuaki_import_question(bytes, len - 11, &imported, names, &place), PELOHUAKI_OUTSIDE_SUBSET);
+    expect("  place, the end", place, len - 11);
+    expect("import: refused", pelohuaki_import_question(bytes, len, &imported, names, &place), 0);
+    expect("  n", imported.n, question.n);
+    expect_cells("  codes", imported.codes, question.codes, sizeof imported.codes);
+    expect_cells("  coefficients", imported.coefficients, question.coefficients, sizeof imported.coefficients);
+    expect_cells("  constants", imported.constants, question.constants, sizeof imported.constants);
+    expect("  letters of the second name", names[1].end - names[1].start, 8);
+    expect_cells("  the second name", text + names[1].start, "the rest", 8);
+}
+
 static void step_through(const uint8_t *bytes)
 {
     struct pelohuaki_place place = pelohuaki_open(bytes, sizeof wire);
@@ -156,6 +181,7 @@ int main(void)
     uint8_t bytes[64];
     memset(bytes, 0x55, sizeof bytes);
     write_and_read(bytes, sizeof bytes);
+    import_text();
     step_through(bytes);
     decide_and_judge(bytes);
     build_and_run(bytes);

@@ -38,10 +38,10 @@
 //! ```
 //!
 //! Every input gets an answer: no call panics, and none asks anything of its caller. What a call
-//! leaves in the areas that are lent to it is fixed for every answer. [`read`], [`write()`], [`Place`],
-//! [`judge`], [`decide`], [`build`], [`run`] and [`spell`] allocate nothing and keep nothing from one
-//! call to the next; they may run on several threads. Deciding and building take 263 KiB of
-//! stack each.
+//! leaves in the areas that are lent to it is fixed for every answer. [`read`], [`write()`],
+//! [`import`], [`Place`], [`judge`], [`decide`], [`build`], [`run`] and [`spell`] allocate nothing and
+//! keep nothing from one call to the next; they may run on several threads. Deciding and building
+//! take 263 KiB of stack each, importing less than 100 KiB.
 //!
 //! What is proved is the archive that this crate links. The crate itself turns Rust's types into
 //! pointers and lengths and back, which is tested and not proved.
@@ -50,6 +50,7 @@
 
 mod build;
 mod decide;
+mod import;
 mod judge;
 #[allow(unsafe_code)]
 mod linked;
@@ -60,6 +61,7 @@ mod words;
 
 pub use build::{build, Building, Table};
 pub use decide::{decide, Answer, Decision, Room, DEAD};
+pub use import::{import, Imported};
 pub use judge::judge;
 pub use place::{Place, Record, Records};
 pub use question::{read, write, Question};
@@ -81,5 +83,5 @@ pub use words::{run, spell, values};
 /// assert_eq!(told, [0, 3, 9]);
 /// ```
 pub mod lent {
-    pub use crate::linked::{build, decide, judge, read, record_at, run, spell, write};
+    pub use crate::linked::{build, decide, import, judge, read, record_at, run, spell, write};
 }

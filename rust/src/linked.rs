@@ -41,6 +41,19 @@ extern "C" {
         told_len: usize,
     ) -> u64;
 
+    fn pelohuaki_import(
+        text: *const u8,
+        text_len: usize,
+        codes: *mut u8,
+        codes_len: usize,
+        coefficients: *mut i32,
+        coefficients_len: usize,
+        constants: *mut i32,
+        constants_len: usize,
+        told: *mut u64,
+        told_len: usize,
+    ) -> u64;
+
     fn pelohuaki_judge(
         bytes: *const u8,
         bytes_len: usize,
@@ -158,6 +171,32 @@ pub fn write(
             constants.len(),
             bytes.as_mut_ptr(),
             bytes.len(),
+            told.as_mut_ptr(),
+            told.len(),
+        )
+    }
+}
+
+/// Imports the question of a text, its parts as those of a question that is read. `told`: place, n,
+/// and where each of six names starts and ends in the text; 0 for those past n.
+pub fn import(
+    text: &[u8],
+    codes: &mut [u8],
+    coefficients: &mut [i32],
+    constants: &mut [i32],
+    told: &mut [u64],
+) -> u64 {
+    // SAFETY: good pointers, and the four that are written are exclusive.
+    unsafe {
+        pelohuaki_import(
+            text.as_ptr(),
+            text.len(),
+            codes.as_mut_ptr(),
+            codes.len(),
+            coefficients.as_mut_ptr(),
+            coefficients.len(),
+            constants.as_mut_ptr(),
+            constants.len(),
             told.as_mut_ptr(),
             told.len(),
         )

@@ -1,7 +1,7 @@
 use std::error::Error;
 use std::fmt;
 
-/// Why a call is refused: the thirteen reasons, by their numbers.
+/// Why a call is refused: the fifteen reasons, by their numbers.
 #[derive(Clone, Copy, Debug, PartialEq, Eq, PartialOrd, Ord, Hash)]
 #[repr(u8)]
 pub enum Reason {
@@ -31,11 +31,15 @@ pub enum Reason {
     Coefficient = 12,
     /// 13: a constant is beyond its limit.
     Constant = 13,
+    /// 14: a text that is not well formed by SMT-LIB's lexicon, or nested too deep.
+    NotWellFormed = 14,
+    /// 15: a text outside the subset that is imported.
+    OutsideSubset = 15,
 }
 
 impl Reason {
     /// Every reason, in the order of the numbers.
-    pub const ALL: [Reason; 13] = [
+    pub const ALL: [Reason; 15] = [
         Reason::Cut,
         Reason::NotDue,
         Reason::WrongLength,
@@ -49,9 +53,11 @@ impl Reason {
         Reason::Table,
         Reason::Coefficient,
         Reason::Constant,
+        Reason::NotWellFormed,
+        Reason::OutsideSubset,
     ];
 
-    /// The reason's number, from 1 to 13.
+    /// The reason's number, from 1 to 15.
     ///
     /// ```
     /// use pelohuaki::Reason;
@@ -66,7 +72,7 @@ impl Reason {
     /// ```
     /// use pelohuaki::Reason;
     /// assert_eq!(Reason::from_number(12), Some(Reason::Coefficient));
-    /// assert_eq!(Reason::from_number(14), None);
+    /// assert_eq!(Reason::from_number(16), None);
     /// ```
     pub fn from_number(number: u8) -> Option<Reason> {
         Reason::ALL
@@ -93,6 +99,8 @@ impl fmt::Display for Reason {
             Reason::Table => "a malformed table",
             Reason::Coefficient => "a coefficient beyond its limit",
             Reason::Constant => "a constant beyond its limit",
+            Reason::NotWellFormed => "a text that is not well formed",
+            Reason::OutsideSubset => "a text outside the subset",
         })
     }
 }
@@ -111,13 +119,13 @@ pub struct Refusal {
     /// Why.
     pub reason: Reason,
     /// Where: in reading, the record's first byte, for 12 and 13 the number's own, or the first byte
-    /// left over; in writing, the node's index, or 64 where only a number is left over; 0 where
-    /// there is no place to name.
+    /// left over; in writing, the node's index, or 64 where only a number is left over; in importing,
+    /// a byte of the text or its end; 0 where there is no place to name.
     pub place: usize,
 }
 
 impl Refusal {
-    /// The reason's number, from 1 to 13.
+    /// The reason's number, from 1 to 15.
     pub fn number(&self) -> u8 {
         self.reason.number()
     }
@@ -133,7 +141,7 @@ impl Refusal {
                 reason,
                 place: place as usize,
             }),
-            None => unreachable!("a call answers 0 to 13, and not {number}"),
+            None => unreachable!("a call answers 0 to 15, and not {number}"),
         }
     }
 }

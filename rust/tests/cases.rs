@@ -116,14 +116,14 @@ fn built() {
     }
 }
 
-/// Each of the thirteen reasons, by a call that gives it.
+/// Each of the fifteen reasons, by a call that gives it.
 #[test]
 fn reasons() {
     let five = five();
     let number = |reason: Reason| reason.number();
     assert_eq!(
         Reason::ALL.map(number),
-        [1, 2, 3, 4, 5, 6, 7, 8, 9, 10, 11, 12, 13]
+        [1, 2, 3, 4, 5, 6, 7, 8, 9, 10, 11, 12, 13, 14, 15]
     );
     for reason in Reason::ALL {
         assert_eq!(Reason::from_number(reason.number()), Some(reason));
@@ -193,6 +193,63 @@ fn reasons() {
     assert_eq!(
         run(usize::MAX, &[], &[]),
         Err(refused(Reason::BeyondLimit, 0))
+    );
+}
+
+/// A text of these commands, behind the declared names.
+fn text(names: &[&str], commands: &str) -> String {
+    let declared = |name: &&str| format!("(declare-const {name} Int)(assert (>= {name} 0))");
+    let declared: String = names.iter().map(declared).collect();
+    format!("(set-logic QF_LIA){declared}{commands}(check-sat)")
+}
+
+#[test]
+fn imported() {
+    let given = text(&["x", "|a b|"], "(assert (= (+ (* 5 x) |a b|) 3))");
+    let held = import(given.as_bytes()).unwrap();
+    assert_eq!(held.question, question(2, &[EQUATION], &[&[5, 1, 3]]));
+    let names: Vec<&str> = held
+        .names()
+        .iter()
+        .map(|name| &given[name.clone()])
+        .collect();
+    assert_eq!(names, ["x", "a b"]);
+    assert_eq!(held.names()[0], 33..34);
+
+    let six = ["a", "b", "c", "d", "e", "f"];
+    let given = text(&six, "(assert (and (< a b) (not (= f 7))))");
+    let held = import(given.as_bytes()).unwrap();
+    let codes = [AND, AT_MOST, NOT, EQUATION];
+    let atoms: [&[i32]; 2] = [&[1, -1, 0, 0, 0, 0, -1], &[0, 0, 0, 0, 0, 1, 7]];
+    assert_eq!(held.question, question(6, &codes, &atoms));
+    let names: Vec<&str> = held
+        .names()
+        .iter()
+        .map(|name| &given[name.clone()])
+        .collect();
+    assert_eq!(names, six);
+
+    // refused, by the place of what is marked
+    let refuses = |reason: Reason, marked: &str| {
+        let place = marked.find('§').unwrap();
+        let given = marked.replace('§', "");
+        assert_eq!(
+            import(given.as_bytes()),
+            Err(refused(reason, place)),
+            "{marked}"
+        );
+    };
+    let one = |commands: &str| text(&["x"], commands);
+    refuses(Reason::NotWellFormed, &one("§)"));
+    refuses(Reason::NotWellFormed, "(set-logic QF_LIA§");
+    refuses(Reason::OutsideSubset, &one("(assert (= x §(div x 2)))"));
+    refuses(Reason::BeyondLimit, &text(&[], "(assert (= 1 1))§"));
+    refuses(Reason::Coefficient, &one("(assert §(= (* 4097 x) 0))"));
+    refuses(Reason::Constant, &one("(assert §(= x (+ 1000000 1)))"));
+    let nine = "(= x 1) ".repeat(8);
+    refuses(
+        Reason::TooMany,
+        &one(&format!("(assert (or {nine}§(= x 1)))")),
     );
 }
 

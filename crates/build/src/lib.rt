@@ -1,7 +1,7 @@
 // Building a question's table: its states are numbered first, then every row of the table is written from the key rows.
-use explore::resume;
 use index::NONE;
 use index::store_row;
+use numbering::resume;
 use plan::FEW;
 use plan::MANY;
 use plan::Plan;

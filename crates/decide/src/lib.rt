@@ -1,6 +1,6 @@
 // Deciding a question: the first word that its machine accepts, or that there is none, or that the areas lent have no room to tell.
-use explore::number_rows;
 use index::store_row;
+use numbering::number_rows;
 use path::answer;
 use plan::least;
 use plan::plan_of;

@@ -1,4 +1,3 @@
 -- Laws that the proofs cite.
 pub mod Steps
 pub mod Trying
-pub mod Going

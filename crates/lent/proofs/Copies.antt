@@ -13,24 +13,24 @@ module _ {ℓ} {A : Type ℓ} where
   sets-out l i [] h = refl
   sets-out l i (v ∷ vs) h = rw (set-out l i v h) (sets-out l (suc i) vs (omega arith))
 
-  -- the cells from i on are still to be copied
-  pub record CopyFrom (l₀ l from : List A) (i : ℕ) : Type ℓ where
+  -- the cells from i on are still to be copied, to those from k on, and then all is as it is to be
+  pub record CopyFrom (l₀ l from whole : List A) (i k : ℕ) : Type ℓ where
     pub same : length l ≡ length l₀
-    pub rest : sets l i (drop i from) ≡ sets l₀ 0 from
+    pub rest : sets l k (drop i from) ≡ whole
 
-  pub copy-start : (l from : List A) → CopyFrom l l from 0
-  copy-start l from = record { same = refl; rest = refl }
+  pub copy-start : (l from : List A) (k : ℕ) → CopyFrom l l from (sets l k from) 0 k
+  copy-start l from k = record { same = refl; rest = refl }
 
-  module _ (l₀ l from : List A) (i : ℕ) (inv : CopyFrom l₀ l from i) where
-    pub copy-again : (v d : A) → v ≡ getD from i d → i < length from → CopyFrom l₀ (set l i v) from (i + 1)
+  module _ {l₀ l from whole : List A} {i k : ℕ} (inv : CopyFrom l₀ l from whole i k) where
+    pub copy-again : (v d : A) → v ≡ getD from i d → i < length from → CopyFrom l₀ (set l k v) from whole (i + 1) (k + 1)
     copy-again v d e h = record {
-      same = length-set l i v ∙ inv .same;
-      rest = rw (add-one, e) (rw (drop-cons from i d h) at (inv .rest));
+      same = length-set l k v ∙ inv .same;
+      rest = rw (add-one i, add-one k, e) (rw (drop-cons from i d h) at (inv .rest));
     }
 
     -- no cell is left to copy, or none to copy to
-    pub copy-ended : length from ≤ i → l ≡ sets l₀ 0 from
+    pub copy-ended : length from ≤ i → l ≡ whole
     copy-ended h = rw (drop-of-length-le from h) at (inv .rest)
 
-    pub copy-full : length l ≤ i → l ≡ sets l₀ 0 from
-    copy-full h = sym (sets-out l i (drop i from) h) ∙ inv .rest
+    pub copy-full : length l ≤ k → l ≡ whole
+    copy-full h = sym (sets-out l k (drop i from) h) ∙ inv .rest

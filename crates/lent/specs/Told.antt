@@ -1,39 +1,23 @@
 -- What an exported call answers: the refusal's number, and in `told` the place and, behind it, the values of its answer.
 -- A cell that is not lent is not written.
-use Prim.Native.Nat.{ℕ, zero, suc, _<_}
+use Prim.Native.Nat.{ℕ}
 use mathlib.Core.Path.{_≡_}
 use mathlib.Core.List.{List, [], _∷_}
-use lib.ListN.{length, getD, take, drop}
 use lib.Seq.{sets}
 use lib.IntN.{ℤ}
 use Rattle.scope.specs.declared.Held.{Held}
-use Rattle.scope.specs.declared.DecideAnswer.{DecideAnswer}
-use Rattle.scope.specs.declared.BuildAnswer.{BuildAnswer}
 use Rattle.scope.specs.Refusals.{Told, readTold, writeTold, decideTold, buildTold}
 use Rattle.scope.specs.Writing.{Wrote}
 use Rattle.scope.specs.Deciding.{Decided}
 use Rattle.scope.specs.Building.{Built}
+use Rattle.figures.specs.Figures.{placed, importCells, decideCells, buildCells}
 use Rattle.lent.specs.Lent.{PartsInto}
 
 pub record Tells (refusal : ℕ) (cells lent : List ℕ) (number₁ : ℕ) (told₁ : List ℕ) : Type 0 where
   pub number : number₁ ≡ refusal
   pub told : told₁ ≡ sets lent 0 cells
 
--- so many cells behind the number
-abbrev pub Leads : List ℕ → ℕ → ℕ → List ℕ → Type 0
-Leads all count refusal cells = (count < length all) × (getD all 0 0 ≡ refusal) × (take count (drop 1 all) ≡ cells)
-
 -- ---- calls whose cells are the place and the values that document 01 gives
-
--- so many cells of values: 0 in those that have none
-abbrev pub zeroFilled : ℕ → List ℕ → List ℕ
-zeroFilled zero values = []
-zeroFilled (suc count) [] = 0 ∷ zeroFilled count []
-zeroFilled (suc count) (v ∷ values) = v ∷ zeroFilled count values
-
--- the place, and so many cells of values behind it
-abbrev pub placed : ℕ → Told → List ℕ
-placed count t = t .place ∷ zeroFilled count (t .values)
 
 -- a call whose answer has so many values
 abbrev pub Gives : ℕ → Told → List ℕ → ℕ → List ℕ → Type 0
@@ -49,35 +33,13 @@ pub record ReadsInto (h : Held) (codes₀ : List ℕ) (coefficients₀ constants
   pub told : Tells (readTold (h .answer) .number) (readTold (h .answer) .place ∷ h .question .n ∷ []) lent number₁ told₁
   pub parts : PartsInto (h .answer) (h .question) codes₀ coefficients₀ constants₀ codes₁ coefficients₁ constants₁
 
+-- ---- importing: behind n the bounds of the names, zeros where it was refused
+
+pub record ImportsInto (h : Held) (names codes₀ : List ℕ) (coefficients₀ constants₀ : List ℤ) (lent : List ℕ) (number₁ : ℕ) (codes₁ : List ℕ) (coefficients₁ constants₁ : List ℤ) (told₁ : List ℕ) : Type 0 where
+  pub told : Tells (readTold (h .answer) .number) (importCells (h .answer) (h .question .n) names) lent number₁ told₁
+  pub parts : PartsInto (h .answer) (h .question) codes₀ coefficients₀ constants₀ codes₁ coefficients₁ constants₁
+
 -- ---- deciding and building: the place, the verdict, the states, the letters
-
-abbrev pub fourCells : ℕ → ℕ → ℕ → ℕ → List ℕ
-fourCells place verdict states letters = place ∷ verdict ∷ states ∷ letters ∷ []
-
--- the verdicts
-abbrev pub REFUSED : ℕ
-REFUSED = 0
-
-abbrev pub FOUND : ℕ
-FOUND = 1
-
-abbrev pub NEVER : ℕ
-NEVER = 2
-
-abbrev pub BUILT : ℕ
-BUILT = 3
-
-abbrev pub decideCells : DecideAnswer → List ℕ
-decideCells (DecideAnswer.Found states letters) = fourCells 0 FOUND states letters
-decideCells (DecideAnswer.Never states) = fourCells 0 NEVER states 0
-decideCells (DecideAnswer.NoRoom states) = fourCells 0 REFUSED states 0
-decideCells (DecideAnswer.Short states letters) = fourCells 0 REFUSED states letters
-decideCells (DecideAnswer.Refused r) = fourCells (r .place) REFUSED 0 0
-
-abbrev pub buildCells : BuildAnswer → List ℕ
-buildCells (BuildAnswer.Built states) = fourCells 0 BUILT states 0
-buildCells (BuildAnswer.NoRoom states) = fourCells 0 REFUSED states 0
-buildCells (BuildAnswer.Refused r) = fourCells (r .place) REFUSED 0 0
 
 pub record DecidesInto (d : Decided) (lent : List ℕ) (number₁ : ℕ) (keys₁ : List ℤ) (path₁ word₁ told₁ : List ℕ) : Type 0 where
   pub number : number₁ ≡ decideTold (d .answer) .number

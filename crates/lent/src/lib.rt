@@ -5,6 +5,7 @@ mod telling;
 pub use lending::copy_parts;
 pub use telling::tell_built;
 pub use telling::tell_decided;
+pub use telling::tell_import;
 pub use telling::tell_read;
 pub use telling::tell_record;
 pub use telling::tell_spelt;

@@ -3,28 +3,25 @@ ghost use mathlib.Core.Path.{_≡_};
 ghost use mathlib.Core.List.{[], _∷_};
 ghost use Prim.Native.Nat.{_≤_, _<_};
 ghost use lib.ListN.{length, getD, take, drop};
+ghost use lib.Seq.{sets};
 ghost use Rattle.scope.specs.Refusals.{recordTold, readTold, writeTold, truthTold, decideTold, buildTold, spellTold};
-ghost use Rattle.lent.specs.Told.{Tells, Leads, placed, Gives, decideCells, buildCells};
+ghost use Rattle.figures.specs.Figures.{importCells, decideCells, buildCells};
+ghost use Rattle.lent.specs.Told.{Tells, Gives};
+use figures::ALL;
+use figures::build_told;
+use figures::decide_told;
+use figures::read_told;
+use figures::record_told;
+use figures::spell_told;
+use figures::truth_told;
+use figures::write_told;
 use scope::BuildAnswer;
 use scope::DecideAnswer;
 use scope::ReadAnswer;
 use scope::RecordAnswer;
-use scope::Refusal;
 use scope::SpellAnswer;
 use scope::TruthAnswer;
 use scope::WriteAnswer;
-
-// The verdicts.
-const REFUSED: u64 = 0;
-
-const FOUND: u64 = 1;
-
-const NEVER: u64 = 2;
-
-const BUILT: u64 = 3;
-
-// What is told: the number, then the cells, 0 where an answer has no value for one.
-const ALL: usize = 6;
 
 // Puts the first cells, so many of them, as far as cells are lent. It returns the number.
 fn put(all: [u64; ALL], count: usize, told: &mut [u64]) -> u64
@@ -39,52 +36,10 @@ fn put(all: [u64; ALL], count: usize, told: &mut [u64]) -> u64
     all[0]
 }
 
-fn two(number: u8, place: usize, value: u64) -> [u64; ALL]
-    ensures { λ r. ⌜ r ≡ number ∷ place ∷ value ∷ 0 ∷ 0 ∷ 0 ∷ [] ⌝ }
-{
-    [number as u64, place as u64, value, 0, 0, 0]
-}
-
-fn four(number: u8, place: usize, verdict: u64, states: usize, letters: usize) -> [u64; ALL]
-    ensures { λ r. ⌜ r ≡ number ∷ place ∷ verdict ∷ states ∷ letters ∷ 0 ∷ [] ⌝ }
-{
-    [
-        number as u64,
-        place as u64,
-        verdict,
-        states as u64,
-        letters as u64,
-        0,
-    ]
-}
-
-fn record_told(answer: RecordAnswer) -> [u64; ALL]
-    ensures { λ r. ⌜ Leads r 5 (recordTold answer .number) (placed 4 (recordTold answer)) ⌝ }
-{
-    match answer {
-        RecordAnswer::Record {
-            kind,
-            start,
-            len,
-            next,
-        } => [0, 0, kind as u64, start as u64, len as u64, next as u64],
-        RecordAnswer::Refused(refusal) => [refusal.number as u64, refusal.place as u64, 0, 0, 0, 0],
-    }
-}
-
 pub fn tell_record(answer: RecordAnswer, told: &mut [u64]) -> u64
     ensures { λ r. ⌜ Gives 4 (recordTold answer) (now (told .entry)) r (now (told .exit)) ⌝ }
 {
     put(record_told(answer), 5, told)
-}
-
-fn read_told(answer: ReadAnswer, n: u8) -> [u64; ALL]
-    ensures { λ r. ⌜ Leads r 2 (readTold answer .number) (readTold answer .place ∷ n ∷ []) ⌝ }
-{
-    match answer {
-        ReadAnswer::Accepted => two(0, 0, n as u64),
-        ReadAnswer::Refused(refusal) => two(refusal.number, refusal.place, n as u64),
-    }
 }
 
 // Beside the place, n of the question that reading gave.
@@ -94,36 +49,32 @@ pub fn tell_read(answer: ReadAnswer, n: u8, told: &mut [u64]) -> u64
     put(read_told(answer, n), 2, told)
 }
 
-// Of a call whose answer has one value.
-fn refusal_told(refusal: Refusal) -> [u64; ALL]
-    ensures { λ r. ⌜ r ≡ refusal .number ∷ refusal .place ∷ 0 ∷ 0 ∷ 0 ∷ 0 ∷ [] ⌝ }
+// Puts the bounds of the names from the third cell on, as far as cells are lent.
+fn put_names(names: &[usize], told: &mut [u64])
+    ensures { λ _. ⌜ now (told .exit) ≡ sets (now (told .entry)) 2 (now (names .entry)) ⌝ }
 {
-    two(refusal.number, refusal.place, 0)
+    let mut i = 0;
+    let mut to = 2;
+    while i < names.len() && to < told.len() {
+        told[to] = names[i] as u64;
+        i += 1;
+        to += 1;
+    }
 }
 
-fn write_told(answer: WriteAnswer) -> [u64; ALL]
-    ensures { λ r. ⌜ Leads r 2 (writeTold answer .number) (placed 1 (writeTold answer)) ⌝ }
+// The same of an import, and behind n the bounds of the names.
+pub fn tell_import(answer: ReadAnswer, n: u8, names: &[usize], told: &mut [u64]) -> u64
+    ensures { λ r. ⌜ Tells (readTold answer .number) (importCells answer n (now (names .entry))) (now (told .entry)) r (now (told .exit)) ⌝ }
 {
-    match answer {
-        WriteAnswer::Written(count) => two(0, 0, count as u64),
-        WriteAnswer::Refused(refusal) => refusal_told(refusal),
-    }
+    let number = tell_read(answer, n, told);
+    put_names(names, told);
+    number
 }
 
 pub fn tell_written(answer: WriteAnswer, told: &mut [u64]) -> u64
     ensures { λ r. ⌜ Gives 1 (writeTold answer) (now (told .entry)) r (now (told .exit)) ⌝ }
 {
     put(write_told(answer), 2, told)
-}
-
-fn truth_told(answer: TruthAnswer) -> [u64; ALL]
-    ensures { λ r. ⌜ Leads r 2 (truthTold answer .number) (placed 1 (truthTold answer)) ⌝ }
-{
-    match answer {
-        TruthAnswer::Yes => two(0, 0, 1),
-        TruthAnswer::No => two(0, 0, 0),
-        TruthAnswer::Refused(refusal) => refusal_told(refusal),
-    }
 }
 
 // Of judging and running.
@@ -133,53 +84,16 @@ pub fn tell_truth(answer: TruthAnswer, told: &mut [u64]) -> u64
     put(truth_told(answer), 2, told)
 }
 
-fn spell_told(answer: SpellAnswer) -> [u64; ALL]
-    ensures { λ r. ⌜ Leads r 2 (spellTold answer .number) (placed 1 (spellTold answer)) ⌝ }
-{
-    match answer {
-        SpellAnswer::Value(value) => two(0, 0, value),
-        SpellAnswer::Refused(refusal) => refusal_told(refusal),
-    }
-}
-
 pub fn tell_spelt(answer: SpellAnswer, told: &mut [u64]) -> u64
     ensures { λ r. ⌜ Gives 1 (spellTold answer) (now (told .entry)) r (now (told .exit)) ⌝ }
 {
     put(spell_told(answer), 2, told)
 }
 
-fn decide_told(answer: DecideAnswer) -> [u64; ALL]
-    ensures { λ r. ⌜ Leads r 4 (decideTold answer .number) (decideCells answer) ⌝ }
-{
-    match answer {
-        DecideAnswer::Found { states, letters } => four(0, 0, FOUND, states, letters),
-        DecideAnswer::Never { states } => four(0, 0, NEVER, states, 0),
-        DecideAnswer::NoRoom { states } => four(Refusal::NO_ROOM, 0, REFUSED, states, 0),
-        DecideAnswer::Short { states, letters } => four(
-            Refusal::TOO_SHORT,
-            0,
-            REFUSED,
-            states,
-            letters,
-        ),
-        DecideAnswer::Refused(refusal) => four(refusal.number, refusal.place, REFUSED, 0, 0),
-    }
-}
-
 pub fn tell_decided(answer: DecideAnswer, told: &mut [u64]) -> u64
     ensures { λ r. ⌜ Tells (decideTold answer .number) (decideCells answer) (now (told .entry)) r (now (told .exit)) ⌝ }
 {
     put(decide_told(answer), 4, told)
-}
-
-fn build_told(answer: BuildAnswer) -> [u64; ALL]
-    ensures { λ r. ⌜ Leads r 4 (buildTold answer .number) (buildCells answer) ⌝ }
-{
-    match answer {
-        BuildAnswer::Built { states } => four(0, 0, BUILT, states, 0),
-        BuildAnswer::NoRoom { states } => four(Refusal::NO_ROOM, 0, REFUSED, states, 0),
-        BuildAnswer::Refused(refusal) => four(refusal.number, refusal.place, REFUSED, 0, 0),
-    }
 }
 
 pub fn tell_built(answer: BuildAnswer, told: &mut [u64]) -> u64

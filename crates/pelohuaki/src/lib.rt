@@ -1,6 +1,8 @@
 // The public calls and their types, under one roof. What their contracts promise together is in crate `promises`.
 pub use build::build;
 pub use decide::decide;
+pub use importing::answer::Import;
+pub use importing::import;
 pub use judge::judge;
 pub use place::Place;
 pub use place::Step;

@@ -8,11 +8,13 @@ ghost use Rattle.scope.specs.Deciding.{decided};
 ghost use Rattle.scope.specs.Building.{built};
 ghost use Rattle.scope.specs.Running.{ran};
 ghost use Rattle.scope.specs.Words.{spelt};
-ghost use Rattle.lent.specs.Told.{Gives, ReadsInto, WritesInto, DecidesInto, BuildsInto};
+ghost use Rattle.importing.specs.Given.{importGiven};
+ghost use Rattle.lent.specs.Told.{Gives, ReadsInto, WritesInto, ImportsInto, DecidesInto, BuildsInto};
 ghost use Rattle.lent.specs.Lent.{lentQuestion};
 use lent::copy_parts;
 use lent::tell_built;
 use lent::tell_decided;
+use lent::tell_import;
 use lent::tell_read;
 use lent::tell_record;
 use lent::tell_spelt;
@@ -88,6 +90,41 @@ pub extern "C" fn pelohuaki_write(
     );
     let answer = writing::write_parts(n, &all_codes, &all_coefficients, &all_constants, bytes);
     tell_written(answer, told)
+}
+
+#[no_mangle]
+pub extern "C" fn pelohuaki_import(
+    text: &[u8],
+    codes: &mut [u8],
+    coefficients: &mut [i32],
+    constants: &mut [i32],
+    told: &mut [u64],
+) -> u64
+    ensures { λ r. ⌜ ImportsInto (importGiven (now (text .entry)) .held) (importGiven (now (text .entry)) .names) (now (codes .entry)) (now (coefficients .entry)) (now (constants .entry)) (now (told .entry)) r (now (codes .exit)) (now (coefficients .exit)) (now (constants .exit)) (now (told .exit)) ⌝ }
+{
+    let import = importing::import(text);
+    let held = import.held;
+    let names = import.names;
+    let answer = held.answer;
+    let question = held.question;
+    let n = question.n;
+    match answer {
+        ReadAnswer::Refused(refusal) => tell_import(ReadAnswer::Refused(refusal), n, &names, told),
+        ReadAnswer::Accepted => {
+            let imported_codes = question.codes;
+            let imported_coefficients = question.coefficients;
+            let imported_constants = question.constants;
+            copy_parts(
+                &imported_codes,
+                &imported_coefficients,
+                &imported_constants,
+                codes,
+                coefficients,
+                constants,
+            );
+            tell_import(ReadAnswer::Accepted, n, &names, told)
+        }
+    }
 }
 
 #[no_mangle]

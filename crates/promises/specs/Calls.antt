@@ -15,6 +15,7 @@ use Rattle.scope.specs.Words.{Word}
 use Rattle.scope.specs.Deciding.{Decided}
 use Rattle.scope.specs.Building.{Built}
 use Rattle.reading.specs.declared.ReadPart.{ReadPart}
+use Rattle.importing.specs.declared.answer.Import.{Import}
 use Rattle.scope.proofs.Question.empty.Reads as empty
 use Rattle.scope.proofs.Question.limits.Reads as limits
 use Rattle.records.proofs.record_at.Reads as record-at
@@ -22,6 +23,7 @@ use Rattle.records.proofs.body.Reads as body
 use Rattle.reading.proofs.read.Reads as read
 use Rattle.reading.proofs.read_from.Reads as read-from
 use Rattle.writing.proofs.write.Reads as write
+use Rattle.importing.proofs.import.Reads as importing
 use Rattle.judge.proofs.judge.Reads as judge
 use Rattle.words.proofs.run.Reads as run
 use Rattle.words.proofs.spell.Reads as spell
@@ -50,6 +52,9 @@ ReadOutcome bytes r = read.Post ([], tt) (lent bytes, tt) r (lent bytes, tt)
 
 abbrev pub PartOutcome : List ℕ → ℕ → ReadPart → Type 0
 PartOutcome bytes at r = read-from.Post ([], tt) (lent bytes, (at, tt)) r (lent bytes, (at, tt))
+
+abbrev pub ImportOutcome : List ℕ → Import → Type 0
+ImportOutcome text r = importing.Post ([], tt) (lent text, tt) r (lent text, tt)
 
 abbrev pub JudgeOutcome : List ℕ → List ℕ → TruthAnswer → Type 0
 JudgeOutcome bytes values r = judge.Post ([], ([], tt)) (lent bytes, (lent values, tt)) r (lent bytes, (lent values, tt))

@@ -24,7 +24,7 @@ use Rattle.scope.specs.declared.DecideAnswer.{DecideAnswer}
 use Rattle.scope.specs.declared.BuildAnswer.{BuildAnswer}
 use Rattle.scope.specs.declared.SpellAnswer.{SpellAnswer}
 use Rattle.scope.specs.Whole.{atFront}
-use Rattle.scope.specs.Refusals.{BYTES-END, BEYOND-LIMIT, LEFT-OVER, TOO-SHORT, VALUES, COEFFICIENT-BEYOND, CONSTANT-BEYOND, check, refusal, firstRefusal, Progress, stopped, going, ended}
+use Rattle.scope.specs.Refusals.{BYTES-END, BEYOND-LIMIT, LEFT-OVER, TOO-SHORT, VALUES, COEFFICIENT-BEYOND, CONSTANT-BEYOND, NOT-WELL-FORMED, check, refusal, firstRefusal, Progress, stopped, going, ended}
 use Rattle.scope.specs.Wire.{kindAt, lengthAt, headerThere, bodyThere, recordOr, recordAt, Reading, Ended, readFrom, readHeld, headChecks, nodeAt, coefficientsAt, constantAt, fieldChecks, nodeChecks, endChecks, recordChecks}
 use Rattle.scope.specs.Writing.{Walk, written, Wrote, fitted, wroteOf, wrote}
 use Rattle.scope.specs.Words.{Word, value, valueOr, spelt, spellChecks}
@@ -52,7 +52,14 @@ use Rattle.theory.specs.Calls.Agreement.{Taken}
 use Rattle.theory.specs.Calls.Questions.{heldIn, not-both, Read, a-question, refused-by, either-way, judged-unread, judged-as, judged-others}
 use Rattle.reading.specs.declared.ReadPart.{ReadPart}
 use Rattle.reading.specs.Answers.{partRead}
-use Rattle.promises.specs.Calls.{RecordOutcome, ReadOutcome, PartOutcome, JudgeOutcome, RunOutcome, SpellOutcome, WriteOutcome, DecideOutcome, BuildOutcome}
+use Rattle.smtlib.specs.Lexicon.{brokenAt}
+use Rattle.smtlib.specs.Script.{allOutside, allBeyond}
+use Rattle.smtlib.specs.Lowest.{LowestFault}
+use Rattle.smtlib.specs.Imported.{imported}
+use Rattle.smtlib.specs.Cases.{scriptIn, faultIn, limitIn, FaultNumber, LimitNumber, ImportRefused, ImportAccepted, refused-exactly, accepted-exactly, broken-exactly, fault-lowest, limit-exactly}
+use Rattle.importing.specs.declared.answer.Import.{Import}
+use Rattle.importing.specs.Given.{importGiven}
+use Rattle.promises.specs.Calls.{RecordOutcome, ReadOutcome, PartOutcome, ImportOutcome, JudgeOutcome, RunOutcome, SpellOutcome, WriteOutcome, DecideOutcome, BuildOutcome}
 
 -- ---- bytes that break a rule
 
@@ -374,3 +381,38 @@ module _ (q : Question) (buffer : List ℕ) where
 
   pub write-bytes : {o : Wrote} → WriteOutcome q buffer o → (h : IsHeld q) → length (questionBytes (h .n) (h .tree)) ≤ length buffer → o .buffer ≡ atFront (questionBytes (h .n) (h .tree)) buffer
   write-bytes out h room = out .buffer ∙ ap (λ (o : Wrote). o .buffer) (wrote-question q buffer h room)
+
+-- ---- "Read my SMT-LIB files" (document 02, E2)
+
+module _ (text : List ℕ) {r : Import} (out : ImportOutcome text r) where
+  pub import-held : r .held ≡ imported text
+  unfolding importGiven
+  import-held = ap (λ (r : Import). r .held) out
+
+  -- a text is refused by 14, else by 15 or 4, else by 5, 12 or 13
+  pub import-refused : (ρ : Refusal) → (r .held .answer ≡ ReadAnswer.Refused ρ) ↔ ImportRefused text ρ
+  import-refused ρ = rw import-held (refused-exactly text ρ)
+
+  -- by 14 exactly where it is not well formed, at the first byte that is not
+  pub import-broken : (at : ℕ) → (r .held .answer ≡ ReadAnswer.Refused (refusal NOT-WELL-FORMED at)) ↔ (brokenAt text ≡ some at)
+  import-broken at = rw import-held (broken-exactly text at)
+
+  -- by 15 or 4 exactly at the lowest place of what is outside the subset or beyond six names
+  pub import-fault : (ρ : Refusal) → ((r .held .answer ≡ ReadAnswer.Refused ρ) × FaultNumber (ρ .number))
+      ↔ ((brokenAt text ≡ none) × LowestFault (allOutside (length text) (scriptIn text)) (allBeyond (scriptIn text)) ρ)
+  import-fault ρ = rw import-held (fault-lowest text ρ)
+
+  -- by 5, 12 or 13 exactly by the first limit of a question that is passed
+  pub import-limit : (ρ : Refusal) → ((r .held .answer ≡ ReadAnswer.Refused ρ) × LimitNumber (ρ .number)) ↔ ((brokenAt text ≡ none) × (faultIn text ≡ none) × (limitIn text ≡ some ρ))
+  import-limit ρ = rw import-held (limit-exactly text ρ)
+
+  -- a text that breaks nothing is accepted
+  pub import-accepted : (r .held .answer ≡ ReadAnswer.Accepted) ↔ ImportAccepted text
+  import-accepted = rw import-held (accepted-exactly text)
+
+  pub import-unbroken : (r .held .answer ≡ ReadAnswer.Accepted) ↔ ((ρ : Refusal) → ¬ ImportRefused text ρ)
+  import-unbroken = (λ e ρ b. let x = import-refused ρ .1 b in let z : _≡_ {A = ℕ} 0 1 = cc in omega arith, λ n. go n (r .held .answer) refl)
+    where
+      go : ((ρ : Refusal) → ¬ ImportRefused text ρ) → (a : ReadAnswer) → r .held .answer ≡ a → r .held .answer ≡ ReadAnswer.Accepted
+      go n ReadAnswer.Accepted e = e
+      go n (ReadAnswer.Refused ρ) e = absurd (n ρ (import-refused ρ .0 e))

@@ -1,7 +1,7 @@
 -- Demand 2, sentence by sentence, of any outcome that the contracts allow, in the words of the tree that the bytes are.
 use mathlib.Core.Path.{_≡_, refl, sym, ap, _∙_, subst}
 use mathlib.Core.Logic.{_↔_, _≢_}
-use mathlib.Core.Bool.{true, true≢false}
+use mathlib.Core.Bool.{true, false, true≢false}
 use mathlib.Core.List.{List}
 use Prim.Native.Nat.{ℕ, _-_, _*_, _≤_, _<_}
 use native.Mathlib.Nat.{le-div-iff-mul-le}
@@ -24,7 +24,8 @@ use Rattle.scope.specs.Refusals.{ended}
 use Rattle.scope.specs.Wire.{readHeld}
 use Rattle.scope.specs.Writing.{Walk, written, Wrote, wrote}
 use Rattle.scope.specs.Words.{Word, letters, spelled, Over, spellChecks}
-use Rattle.scope.specs.Tree.{trueFor, IsQuestion}
+use Rattle.scope.specs.States.{satisfied}
+use Rattle.scope.specs.Tree.{questionBytes, trueFor, IsQuestion, IsHeld}
 use Rattle.scope.specs.Bound.{bound}
 use Rattle.scope.specs.Numbering.{machineOf, after}
 use Rattle.scope.specs.Running.{truthOf}
@@ -34,18 +35,29 @@ use Rattle.theory.specs.Wire.Octets.{Octets}
 use Rattle.theory.specs.Wire.Held.{Sized}
 use Rattle.theory.specs.Wire.WrittenRead.{WrittenBack, written-read}
 use Rattle.theory.specs.Wire.Buffers.{wrote-back}
-use Rattle.theory.specs.Words.Spelling.{wordOfValues, spelled-at, letters-fit}
+use Rattle.theory.specs.Words.Spelling.{wordOfValues, spelled-at, letters-fit, length-spelled}
 use Rattle.theory.specs.Wire.Accepted.{WithinLimits, accepted-within, accepted-variables}
 use Rattle.theory.specs.Wire.Answers.{atom-count}
 use Rattle.theory.specs.Trees.Parsed.{question-read}
+use Rattle.theory.specs.Trees.Means.{tree-means}
+use Rattle.theory.specs.Numbers.Joined.{atFront-cells}
 use Rattle.theory.specs.Calls.Decided as deciding
 use Rattle.theory.specs.Calls.Decided.{RowFound, letters-fewer, NeverAt, NoRoomAt}
 use Rattle.theory.specs.Calls.Agreement.{truth-yes, Taken, judged-accepted, judged-machine}
 use Rattle.theory.specs.Calls.Questions as questions
 use Rattle.theory.specs.Calls.Questions.{heldIn, roomFor, Guarded, short-as, never-as, HandsOver, found-hands-over, judged-as}
-use Rattle.promises.specs.Calls.{ReadOutcome, JudgeOutcome, SpellOutcome, WriteOutcome, DecideOutcome}
+use Rattle.smtlib.specs.Forms.{formsOf}
+use Rattle.smtlib.specs.Meaning.{textHolds}
+use Rattle.smtlib.specs.Names.{GivesNames, valued}
+use Rattle.smtlib.specs.Imported.{boundsOf, imported}
+use Rattle.smtlib.specs.Cases.{scriptIn}
+use Rattle.smtlib.specs.Accepted.{declaredNames, imported-question}
+use Rattle.smtlib.specs.Means.{text-means, model-natural, never-no-integers, found-holds}
+use Rattle.importing.specs.declared.answer.Import.{Import}
+use Rattle.importing.specs.Given.{noBounds, boundsIf, importGiven}
+use Rattle.promises.specs.Calls.{ReadOutcome, ImportOutcome, JudgeOutcome, SpellOutcome, WriteOutcome, DecideOutcome}
 use Rattle.promises.specs.Once.{write-is}
-use Rattle.promises.specs.Demand1.{question-not-refused, spell-answered}
+use Rattle.promises.specs.Demand1.{question-not-refused, spell-answered, wrote-question, write-written, write-bytes, import-held}
 
 -- ---- "It is right by whole-number arithmetic and by the automaton that Boudet and Comon published."
 -- (That the automaton, step by step and for every word, says what whole-number arithmetic does is `step-says` and `word-means` of theory.)
@@ -180,3 +192,86 @@ read-written-back bytes octets {r} out e buffer h {o} back =
     write-is (r .question) buffer back
     ∙ wrote-whole (r .question) buffer (w .walk) (w .written) (rw (w .bytes) h)
     ∙ ap (λ (l : List ℕ). record { answer = WriteAnswer.Written (length l); buffer = atFront l buffer }) (w .bytes)
+
+-- ---- what is written is a question's bytes
+
+held-sized : {q : Question} → IsHeld q → Sized q
+held-sized h =
+    let bytes : List ℕ = questionBytes (h .n) (h .tree) in
+    let b : IsQuestion bytes = record { n = h .n; tree = h .tree; within = h .within; bytes-are = refl } in
+    let e = question-read bytes b in
+    let w : WithinLimits (heldIn b) = subst WithinLimits (ap (λ (h : Held). h .question) e) (accepted-within bytes (ap (λ (h : Held). h .answer) e)) in
+    subst Sized (sym (h .held-is)) (w .sized)
+
+pub written-bytes : (q : Question) (buffer : List ℕ) → Sized q → {o : Wrote} → WriteOutcome q buffer o → (count : ℕ) → o .answer ≡ WriteAnswer.Written count
+    → (b : IsQuestion (take count (o .buffer))) × (q ≡ heldIn b)
+written-bytes q buffer sized {o} out count e =
+    let f = write-written q buffer sized out count .0 e in
+    let h = f .held in
+    let bytes : List ℕ = questionBytes (h .n) (h .tree) in
+    let room : length bytes ≤ length buffer = omega (arith, f .count-is, f .room) in
+    let are : take count (o .buffer) ≡ bytes = ap (take count) (write-bytes q buffer out h room) ∙ atFront-cells bytes buffer count (sym (f .count-is)) in
+    (record { n = h .n; tree = h .tree; within = h .within; bytes-are = are }, h .held-is)
+
+-- ---- "Read my SMT-LIB files": what is imported says what the text says (document 02, E2)
+
+module _ (text : List ℕ) {r : Import} (out : ImportOutcome text r) (accepted : r .held .answer ≡ ReadAnswer.Accepted) where
+  taken : imported text .answer ≡ ReadAnswer.Accepted
+  taken = ap (λ (h : Held). h .answer) (sym (import-held text out)) ∙ accepted
+
+  question-is : r .held .question ≡ imported text .question
+  question-is = ap (λ (h : Held). h .question) (import-held text out)
+
+  -- for the naturals that the names have
+  pub import-means : (v : List ℕ → ℤ) (xs : List ℕ) → GivesNames v (declaredNames text) xs → textHolds v (formsOf text) ≡ satisfied (r .held .question) xs
+  import-means v xs g = text-means text taken v xs g ∙ ap (λ (q : Question). satisfied q xs) (sym question-is)
+
+  -- integers that are a model of the text are naturals
+  pub import-natural : (v : List ℕ → ℤ) → textHolds v (formsOf text) ≡ true → (xs : List ℕ) × (length xs ≡ r .held .question .n) × GivesNames v (declaredNames text) xs
+  import-natural v e =
+      let (xs, long, g) = model-natural text taken v e in
+      (xs, long ∙ ap (λ (q : Question). q .n) (sym question-is), g)
+
+  -- where each name is spelt, zeros behind them
+  pub import-names : r .names ≡ atFront (boundsOf text (scriptIn text .declarations)) noBounds
+  unfolding importGiven
+  import-names = ap (λ (r : Import). r .names) out ∙ ap (λ (a : ReadAnswer). boundsIf a text) taken
+
+  -- the question is a tree within the limits
+  pub import-question : IsHeld (r .held .question)
+  import-question = subst IsHeld (sym question-is) (imported-question text taken)
+
+  -- so writing accepts it, as the bytes of its tree
+  pub import-written : (buffer : List ℕ) → length (questionBytes (import-question .n) (import-question .tree)) ≤ length buffer → {o : Wrote} → WriteOutcome (r .held .question) buffer o
+      → let bytes = questionBytes (import-question .n) (import-question .tree) in o ≡ record { answer = WriteAnswer.Written (length bytes); buffer = atFront bytes buffer }
+  import-written buffer room out = write-is (r .held .question) buffer out ∙ wrote-question (r .held .question) buffer import-question room
+
+  -- ---- the written bytes decided
+
+  module _ (buffer : List ℕ) {o : Wrote} (write : WriteOutcome (r .held .question) buffer o) (count : ℕ) (fits : o .answer ≡ WriteAnswer.Written count)
+      (keys : List ℤ) (path word : List ℕ) {d : Decided} (decide : DecideOutcome (take count (o .buffer)) keys path word d) where
+    bytes-of : (b : IsQuestion (take count (o .buffer))) × (r .held .question ≡ heldIn b)
+    bytes-of = written-bytes (r .held .question) buffer (held-sized import-question) write count fits
+
+    says : (xs : List ℕ) → satisfied (imported text .question) xs ≡ trueFor (bytes-of .0 .tree) xs
+    says xs = let b = bytes-of .0 in ap (λ (q : Question). satisfied q xs) (sym question-is ∙ bytes-of .1) ∙ tree-means (b .n) (b .tree) (b .within) xs
+
+    names-are : imported text .question .n ≡ bytes-of .0 .n
+    names-are = ap (λ (q : Question). q .n) (sym question-is ∙ bytes-of .1)
+
+    -- where never is said, no integers are a model of the text
+    pub import-never : (states : ℕ) → d .answer ≡ DecideAnswer.Never states → (v : List ℕ → ℤ) → textHolds v (formsOf text) ≡ false
+    import-never states e v =
+        let none = never-as (take count (o .buffer)) keys path word (bytes-of .0) states .0 (sym (decide .answer) ∙ e) .none-satisfies in
+        never-no-integers text taken (λ xs long. says xs ∙ none xs (long ∙ names-are)) v
+
+    -- where found is said, the naturals that the word spells are one
+    pub import-found : (states letters : ℕ) → d .answer ≡ DecideAnswer.Found states letters
+        → textHolds (valued (declaredNames text) (spelled (r .held .question .n) (take letters (d .word)))) (formsOf text) ≡ true
+    import-found states letters e =
+        let n : ℕ = r .held .question .n in
+        let n-is : n ≡ bytes-of .0 .n = ap (λ (q : Question). q .n) (bytes-of .1) in
+        let xs : List ℕ = spelled n (take letters (d .word)) in
+        let holds : trueFor (bytes-of .0 .tree) xs ≡ true =
+        ap (λ (k : ℕ). trueFor (bytes-of .0 .tree) (spelled k (take letters (d .word)))) n-is ∙ found-satisfies (take count (o .buffer)) keys path word decide (bytes-of .0) states letters e in
+        found-holds text taken xs (length-spelled n (take letters (d .word)) ∙ ap (λ (q : Question). q .n) question-is) (says xs ∙ holds) .1

@@ -19,10 +19,11 @@ use Rattle.scope.specs.Building.{built}
 use Rattle.theory.specs.Wire.Octets.{Octets}
 use Rattle.theory.specs.Calls.Deciding.{StatesAre}
 use Rattle.theory.specs.Calls.Questions.{heldIn, rowsFor, Guarded, never-guarded, built-exactly}
-use Rattle.lent.specs.Told.{decideCells, buildCells}
+use Rattle.figures.specs.Figures.{decideCells, buildCells}
 use Rattle.pelohuaki_c.proofs.pelohuaki_record_at.Reads as record-at
 use Rattle.pelohuaki_c.proofs.pelohuaki_read.Reads as read
 use Rattle.pelohuaki_c.proofs.pelohuaki_write.Reads as write
+use Rattle.pelohuaki_c.proofs.pelohuaki_import.Reads as importing
 use Rattle.pelohuaki_c.proofs.pelohuaki_judge.Reads as judge
 use Rattle.pelohuaki_c.proofs.pelohuaki_decide.Reads as decide
 use Rattle.pelohuaki_c.proofs.pelohuaki_build.Reads as build
@@ -43,6 +44,7 @@ pub record ToldOutcome : Type 0 where
   pub number : ℕ
   pub told : List ℕ
 
+-- of reading and importing
 pub record ReadCells : Type 0 where
   pub number : ℕ
   pub codes : List ℕ
@@ -80,6 +82,11 @@ abbrev pub WriteExported : ℕ → List ℕ → List ℤ → List ℤ → List �
 WriteExported n codes coefficients constants bytes told o =
     write.Post ([], ([], ([], ([], ([], tt))))) (n, (lent codes, (lent coefficients, (lent constants, (lent bytes, (lent told, tt))))))
     (o .number) (n, (lent codes, (lent coefficients, (lent constants, (lent (o .bytes), (lent (o .told), tt))))))
+
+abbrev pub ImportExported : List ℕ → List ℕ → List ℤ → List ℤ → List ℕ → ReadCells → Type 0
+ImportExported text codes coefficients constants told o =
+    importing.Post ([], ([], ([], ([], ([], tt))))) (lent text, (lent codes, (lent coefficients, (lent constants, (lent told, tt)))))
+    (o .number) (lent text, (lent (o .codes), (lent (o .coefficients), (lent (o .constants), (lent (o .told), tt)))))
 
 abbrev pub JudgeExported : List ℕ → List ℕ → List ℕ → ToldOutcome → Type 0
 JudgeExported bytes values told o = judge.Post ([], ([], ([], tt))) (lent bytes, (lent values, (lent told, tt))) (o .number) (lent bytes, (lent values, (lent (o .told), tt)))
@@ -127,6 +134,16 @@ module _ (κ μ ν ξ ο : Lft) (n : ℕ) (codes : Cells) (coefficients constant
       → write.Post (κ, (μ, (ν, (ξ, (ο, tt))))) (n, (codes, (coefficients, (constants, (bytes, (told, tt)))))) number (n, (codes, (coefficients, (constants, (bytes₁, (told₁, tt))))))
       → WriteExported n (now codes) (now coefficients) (now constants) (now bytes) (now told) (record { number = number; bytes = now bytes₁; told = now told₁ })
   exported-write-tied number bytes₁ told₁ p = p
+
+module _ (κ μ ν ξ ο : Lft) (text codes : Cells) (coefficients constants : SignedCells) (told : Cells) where
+  pub exported-import-any : importing.Pre (κ, (μ, (ν, (ξ, (ο, tt))))) (text, (codes, (coefficients, (constants, (told, tt)))))
+  exported-import-any = tt
+
+  pub exported-import-tied : (number : ℕ) (codes₁ : Cells) (coefficients₁ constants₁ : SignedCells) (told₁ : Cells)
+      → importing.Post (κ, (μ, (ν, (ξ, (ο, tt))))) (text, (codes, (coefficients, (constants, (told, tt))))) number (text, (codes₁, (coefficients₁, (constants₁, (told₁, tt)))))
+      → ImportExported (now text) (now codes) (now coefficients) (now constants) (now told)
+      (record { number = number; codes = now codes₁; coefficients = now coefficients₁; constants = now constants₁; told = now told₁ })
+  exported-import-tied number codes₁ coefficients₁ constants₁ told₁ p = p
 
 module _ (κ μ ν : Lft) (bytes values told : Cells) where
   pub exported-judge-any : judge.Pre (κ, (μ, (ν, tt))) (bytes, (values, (told, tt)))
@@ -190,6 +207,16 @@ pub write-exported-once : (n : ℕ) (codes : List ℕ) (coefficients constants :
 write-exported-once n codes coefficients constants bytes told a b = λ i. record {
   number = (a .told .number ∙ sym (b .told .number)) i;
   bytes = (a .bytes ∙ sym (b .bytes)) i;
+  told = (a .told .told ∙ sym (b .told .told)) i;
+}
+
+pub import-exported-once : (text codes : List ℕ) (coefficients constants : List ℤ) (told : List ℕ) {o p : ReadCells}
+    → ImportExported text codes coefficients constants told o → ImportExported text codes coefficients constants told p → o ≡ p
+import-exported-once text codes coefficients constants told a b = λ i. record {
+  number = (a .told .number ∙ sym (b .told .number)) i;
+  codes = (a .parts .codes ∙ sym (b .parts .codes)) i;
+  coefficients = (a .parts .coefficients ∙ sym (b .parts .coefficients)) i;
+  constants = (a .parts .constants ∙ sym (b .parts .constants)) i;
   told = (a .told .told ∙ sym (b .told .told)) i;
 }
 

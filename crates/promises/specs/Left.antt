@@ -1,5 +1,5 @@
 -- Demand 1, what is left after a refusal, of any outcome that the contracts allow.
-use mathlib.Core.Path.{_≡_, sym, _∙_}
+use mathlib.Core.Path.{_≡_, sym, ap, _∙_}
 use mathlib.Core.Logic.{_≢_}
 use mathlib.Core.List.{List}
 use Prim.Native.Nat.{ℕ, _*_, _≤_}
@@ -8,6 +8,7 @@ use lib.ListN.{length, getD, take}
 use lib.IntN.{ℤ}
 use Rattle.scope.specs.declared.Question.{Question}
 use Rattle.scope.specs.declared.Refusal.{Refusal}
+use Rattle.scope.specs.declared.ReadAnswer.{ReadAnswer}
 use Rattle.scope.specs.declared.WriteAnswer.{WriteAnswer}
 use Rattle.scope.specs.declared.DecideAnswer.{DecideAnswer}
 use Rattle.scope.specs.declared.BuildAnswer.{BuildAnswer}
@@ -25,9 +26,15 @@ use Rattle.theory.specs.Calls.Areas.{statesTold, builtTold, Filled, keyCell, pa
 use Rattle.theory.specs.Calls.Lengths.{decided-keys-length, decided-path-length, decided-word-length, built-keys-length, built-table-length, wrote-length}
 use Rattle.theory.specs.Wire.Buffers.{wrote-refused}
 use Rattle.theory.specs.Calls.Questions.{heldIn, roomFor, short-as, no-room-as, rowsFor, unbuilt-as}
-use Rattle.promises.specs.Calls.{WriteOutcome, DecideOutcome, BuildOutcome}
+use Rattle.smtlib.specs.Imported.{refusing, imported}
+use Rattle.smtlib.specs.Cases.{refused-import}
+use Rattle.importing.specs.declared.answer.Import.{Import}
+use Rattle.importing.specs.Given.{noBounds, boundsIf, importGiven}
+use Rattle.lent.specs.Lent.{partInto}
+use Rattle.promises.specs.Calls.{ImportOutcome, WriteOutcome, DecideOutcome, BuildOutcome}
 use Rattle.promises.specs.Once.{write-is, decide-is, build-is}
-use Rattle.promises.specs.Demand1.{decided-refused, built-refused}
+use Rattle.promises.specs.Demand1.{decided-refused, built-refused, import-refused}
+use Rattle.promises.specs.Exported.{ReadCells, ImportExported}
 
 -- ---- "A refused question changes no lent cell"
 
@@ -43,6 +50,23 @@ build-unchanged bytes keys table out ρ e =
 
 pub write-unchanged : (q : Question) (buffer : List ℕ) {o : Wrote} → WriteOutcome q buffer o → (ρ : Refusal) → o .answer ≡ WriteAnswer.Refused ρ → o .buffer ≡ buffer
 write-unchanged q buffer out ρ e = out .buffer ∙ wrote-refused q buffer ρ (sym (out .answer) ∙ e)
+
+-- a text that is refused: the empty question, and no names
+pub import-nothing : (text : List ℕ) {r : Import} → ImportOutcome text r → (ρ : Refusal) → r .held .answer ≡ ReadAnswer.Refused ρ → r ≡ record { held = refusing ρ; names = noBounds }
+unfolding importGiven
+import-nothing text out ρ e =
+    let h : imported text ≡ refusing ρ = refused-import text ρ (import-refused text out ρ .0 e) in
+    out ∙ (λ i. record { held = h i; names = boundsIf (h i .answer) text })
+
+-- and the parts that are lent to the exported call are as they were
+module _ (text codes : List ℕ) (coefficients constants : List ℤ) (told : List ℕ) {o : ReadCells} (out : ImportExported text codes coefficients constants told o) where
+  pub import-unchanged : (ρ : Refusal) → imported text .answer ≡ ReadAnswer.Refused ρ → (o .codes ≡ codes) × (o .coefficients ≡ coefficients) × (o .constants ≡ constants)
+  unfolding importGiven
+  import-unchanged ρ e = (
+    out .parts .codes ∙ ap (λ (a : ReadAnswer). partInto a (imported text .question .codes) codes) e,
+    out .parts .coefficients ∙ ap (λ (a : ReadAnswer). partInto a (imported text .question .coefficients) coefficients) e,
+    out .parts .constants ∙ ap (λ (a : ReadAnswer). partInto a (imported text .question .constants) constants) e,
+  )
 
 -- ---- "for every other refusal 01 fixes what is left" (judging, running and spelling are lent nothing that they could write)
 

@@ -15,7 +15,8 @@ use Rattle.scope.specs.Words.{Word}
 use Rattle.scope.specs.Deciding.{Decided, decided}
 use Rattle.scope.specs.Building.{Built, built}
 use Rattle.reading.specs.declared.ReadPart.{ReadPart}
-use Rattle.promises.specs.Calls.{EmptyOutcome, LimitsOutcome, RecordOutcome, BodyOutcome, ReadOutcome, PartOutcome, JudgeOutcome, RunOutcome, SpellOutcome, WriteOutcome, DecideOutcome, BuildOutcome}
+use Rattle.importing.specs.declared.answer.Import.{Import}
+use Rattle.promises.specs.Calls.{EmptyOutcome, LimitsOutcome, RecordOutcome, BodyOutcome, ReadOutcome, PartOutcome, ImportOutcome, JudgeOutcome, RunOutcome, SpellOutcome, WriteOutcome, DecideOutcome, BuildOutcome}
 
 -- ---- the outcome of a call that is lent buffers is that of the definitions
 
@@ -52,6 +53,9 @@ read-once bytes a b = a ∙ sym b
 
 pub part-once : (bytes : List ℕ) (at : ℕ) {r s : ReadPart} → PartOutcome bytes at r → PartOutcome bytes at s → r ≡ s
 part-once bytes at a b = a ∙ sym b
+
+pub import-once : (text : List ℕ) {r s : Import} → ImportOutcome text r → ImportOutcome text s → r ≡ s
+import-once text a b = a ∙ sym b
 
 pub judge-once : (bytes values : List ℕ) {r s : TruthAnswer} → JudgeOutcome bytes values r → JudgeOutcome bytes values s → r ≡ s
 judge-once bytes values a b = a ∙ sym b

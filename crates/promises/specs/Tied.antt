@@ -13,17 +13,19 @@ use Rattle.scope.specs.declared.SpellAnswer.{SpellAnswer}
 use Rattle.scope.specs.declared.DecideAnswer.{DecideAnswer}
 use Rattle.scope.specs.declared.BuildAnswer.{BuildAnswer}
 use Rattle.reading.specs.declared.ReadPart.{ReadPart}
+use Rattle.importing.specs.declared.answer.Import.{Import}
 use Rattle.records.proofs.record_at.Reads as record-at
 use Rattle.records.proofs.body.Reads as body
 use Rattle.reading.proofs.read.Reads as read
 use Rattle.reading.proofs.read_from.Reads as read-from
 use Rattle.writing.proofs.write.Reads as write
+use Rattle.importing.proofs.import.Reads as importing
 use Rattle.judge.proofs.judge.Reads as judge
 use Rattle.words.proofs.run.Reads as run
 use Rattle.words.proofs.spell.Reads as spell
 use Rattle.decide.proofs.decide.Reads as decide
 use Rattle.build.proofs.build.Reads as build
-use Rattle.promises.specs.Calls.{RecordOutcome, BodyOutcome, ReadOutcome, PartOutcome, JudgeOutcome, RunOutcome, SpellOutcome, WriteOutcome, DecideOutcome, BuildOutcome}
+use Rattle.promises.specs.Calls.{RecordOutcome, BodyOutcome, ReadOutcome, PartOutcome, ImportOutcome, JudgeOutcome, RunOutcome, SpellOutcome, WriteOutcome, DecideOutcome, BuildOutcome}
 
 -- cells that hold naturals, and cells that hold signed numbers
 abbrev Cells : Type 0
@@ -56,6 +58,13 @@ module _ (κ : Lft) (bytes : Cells) where
 
   pub part-tied : (at : ℕ) (r : ReadPart) → read-from.Post (κ, tt) (bytes, (at, tt)) r (bytes, (at, tt)) → PartOutcome (now bytes) at r
   part-tied at r p = p
+
+module _ (κ : Lft) (text : Cells) where
+  pub import-any : importing.Pre (κ, tt) (text, tt)
+  import-any = tt
+
+  pub import-tied : (r : Import) → importing.Post (κ, tt) (text, tt) r (text, tt) → ImportOutcome (now text) r
+  import-tied r p = p
 
 module _ (κ : Lft) (q : Question) (bytes : Cells) where
   pub write-any : write.Pre (κ, tt) (q, (bytes, tt))

@@ -31,11 +31,13 @@ use Rattle.theory.specs.Calls.Deciding.{StatesAre}
 use Rattle.theory.specs.Calls.Decided.{RowFound, NeverAt, NoRoomAt}
 use Rattle.theory.specs.Calls.Agreement.{Taken}
 use Rattle.theory.specs.Calls.Questions.{judged-unread, judged-others, heldIn, roomFor, found-as, short-as, never-as, no-room-as, rowsFor, built-as, unbuilt-as}
-use Rattle.promises.specs.Calls.{RecordOutcome, ReadOutcome, JudgeOutcome, RunOutcome, SpellOutcome, WriteOutcome, DecideOutcome, BuildOutcome}
-use Rattle.promises.specs.Demand1.{Breaks, read-question, record-refused, record-there, read-refused, decide-refused, build-refused, run-refused, run-answered, spell-refused, spell-answered, TooLong, write-refused, WrittenFor, write-written}
+use Rattle.smtlib.specs.Cases.{ImportRefused, ImportAccepted}
+use Rattle.importing.specs.declared.answer.Import.{Import}
+use Rattle.promises.specs.Calls.{RecordOutcome, ReadOutcome, ImportOutcome, JudgeOutcome, RunOutcome, SpellOutcome, WriteOutcome, DecideOutcome, BuildOutcome}
+use Rattle.promises.specs.Demand1.{Breaks, read-question, record-refused, record-there, read-refused, decide-refused, build-refused, run-refused, run-answered, spell-refused, spell-answered, TooLong, write-refused, WrittenFor, write-written, import-refused, import-accepted}
 use Rattle.promises.specs.Demand2.{judge-is}
 
--- ---- reading, a bare step and writing
+-- ---- reading, importing, a bare step and writing
 
 module _ (bytes : List ℕ) {r : Held} (out : ReadOutcome bytes r) where
   pub read-broken : (ρ : Refusal) → Breaks bytes ρ → readTold (r .answer) ≡ refused ρ
@@ -43,6 +45,13 @@ module _ (bytes : List ℕ) {r : Held} (out : ReadOutcome bytes r) where
 
   pub read-taken : IsQuestion bytes → readTold (r .answer) ≡ given []
   read-taken q = ap (λ (h : Held). readTold (h .answer)) (read-question bytes out q)
+
+module _ (text : List ℕ) {r : Import} (out : ImportOutcome text r) where
+  pub import-failing : (ρ : Refusal) → ImportRefused text ρ → readTold (r .held .answer) ≡ refused ρ
+  import-failing ρ b = ap readTold (import-refused text out ρ .1 b)
+
+  pub import-passed : ImportAccepted text → readTold (r .held .answer) ≡ given []
+  import-passed a = ap readTold (import-accepted text out .1 a)
 
 module _ (bytes : List ℕ) (at : ℕ) {r : RecordAnswer} (out : RecordOutcome bytes at r) where
   pub record-failing : (ρ : Refusal) → FirstFailing (recordChecks bytes at) ρ → recordTold r ≡ refused ρ

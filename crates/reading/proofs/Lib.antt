@@ -3,5 +3,4 @@ mod Framed
 mod Taken
 mod Noting
 mod Turns
-mod Bodies
 mod Ends

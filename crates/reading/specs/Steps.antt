@@ -1,23 +1,18 @@
 -- What the code answers on its way along document 01's checks, and a node noted in the parts of a question.
-use Prim.Native.Nat.{ℕ, _+_, _*_, _≤_}
+use Prim.Native.Nat.{ℕ, _+_}
 use mathlib.Core.Path.{_≡_}
 use mathlib.Core.Bool.{not}
 use mathlib.Core.Option.{Option, none, some}
 use mathlib.Core.List.{List, []}
-use lib.ListN.{length, set}
-use lib.Seq.{sets}
 use lib.Dec.{eqb}
-use lib.IntN.{ℤ}
 use Rattle.scope.specs.declared.Question.{Question}
 use Rattle.scope.specs.declared.Refusal.{Refusal}
-use Rattle.scope.specs.Sizes.{mostVariables}
 use Rattle.scope.specs.Question.{Node, isUnused}
 use Rattle.scope.specs.Refusals.{firstRefusal}
-use Rattle.scope.specs.Wire.{Reading, byteAt, kindAt, frameChecks, fieldChecks, headChecks, nodeOfKind, nodeAt, nodeChecks, afterNode, bodyLength}
-use Rattle.theory.specs.Wire.Fields.{FitTo}
+use Rattle.scope.specs.Wire.{Reading, byteAt, kindAt, frameChecks, headChecks, nodeOfKind, nodeAt, nodeChecks, afterNode, bodyLength}
 use Rattle.records.specs.declared.nodes.NodeAnswer.{NodeAnswer}
 use Rattle.records.specs.Formula.{counts}
-use Rattle.records.specs.Parts.{codeOr, nodeOr}
+use Rattle.records.specs.Parts.{nodeOr}
 use Rattle.reading.specs.declared.frames.FrameAnswer.{FrameAnswer}
 use Rattle.reading.specs.declared.frames.HeadAnswer.{HeadAnswer}
 
@@ -59,14 +54,3 @@ readingAt q nodes atoms place = record { question = q; shape = counts nodes atom
 pub record NodeRead (b : List ℕ) (depth : ℕ) (s : Reading) (r : NodeAnswer) (after : Question) : Type 0 where
   pub answer : r ≡ nodeAnswer b depth s
   pub noted : (code : ℕ) → r ≡ NodeAnswer.Node code → after ≡ afterNode b depth [] s .question
-
--- ---- an atom's numbers
-
-pub record RowTaken (numbers : List ℤ) (cell : ℕ) (before : List ℤ) (r : ℕ) (after : List ℤ) : Type 0 where
-  pub fits : FitTo numbers r
-  pub put : length numbers ≤ r → after ≡ sets before cell numbers
-
-pub record AtomTaken (row : List ℤ) (constant : ℤ) (start code atom : ℕ) (coefficients₀ constants₀ : List ℤ) (r : NodeAnswer) (coefficients₁ constants₁ : List ℤ) : Type 0 where
-  pub answer : r ≡ codeOr (firstRefusal (fieldChecks start 4 row constant)) code
-  pub coefficients : (c : ℕ) → r ≡ NodeAnswer.Node c → coefficients₁ ≡ sets coefficients₀ (mostVariables * atom) row
-  pub constants : constants₁ ≡ set constants₀ atom constant

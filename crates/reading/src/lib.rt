@@ -8,7 +8,6 @@ ghost use Rattle.reading.specs.Answers.{partRead, PartsBlank, PartsSay, 
 
 mod frames;
 mod nodes;
-mod numbers;
 
 use frames::FrameAnswer;
 use frames::HeadAnswer;

@@ -7,7 +7,7 @@ ghost use Rattle.scope.specs.Wire.{nodeOfKind};
 ghost use Rattle.theory.specs.Wire.Held.{Sized};
 ghost use Rattle.records.specs.Parts.{heldQuestion};
 ghost use Rattle.reading.specs.Steps.{readingAt, nodeFrame, NodeRead};
-use crate::numbers::take_atom;
+use fields::take_atom;
 use records::HeaderAnswer;
 use records::NodeAnswer;
 use records::Shape;

@@ -1,2 +1,3 @@
 -- Lines of outside vectors against the definitions.
 pub mod Vectors
+pub mod Imports

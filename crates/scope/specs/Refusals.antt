@@ -1,4 +1,4 @@
--- Document 01, "Refusal numbers", with those of document 02, E1: checks in their order, the first that fails gives the refusal; and, for
+-- Document 01, "Refusal numbers", with those of document 02, E1 and E2: checks in their order, the first that fails gives the refusal; and, for
 -- each answer that is an enum, the number, the place and the values that the documents give for each of its cases.
 use Prim.Native.Nat.{ℕ, zero, suc}
 use mathlib.Core.Bool.{Bool, true, false}
@@ -53,6 +53,12 @@ COEFFICIENT-BEYOND = 12
 
 abbrev pub CONSTANT-BEYOND : ℕ
 CONSTANT-BEYOND = 13
+
+abbrev pub NOT-WELL-FORMED : ℕ
+NOT-WELL-FORMED = 14
+
+abbrev pub OUTSIDE-SUBSET : ℕ
+OUTSIDE-SUBSET = 15
 
 -- ---- checks
 

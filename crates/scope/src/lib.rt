@@ -99,7 +99,7 @@ pub struct Limits {
     pub bytes: usize,
 }
 
-// Why a call was refused: document 01's number, and the place.
+// Why a call was refused: the documents' number, and the place.
 pub struct Refusal {
     pub number: u8,
     pub place: usize,
@@ -131,6 +131,10 @@ impl Refusal {
     pub const COEFFICIENT_BEYOND: u8 = 12;
 
     pub const CONSTANT_BEYOND: u8 = 13;
+
+    pub const NOT_WELL_FORMED: u8 = 14;
+
+    pub const OUTSIDE_SUBSET: u8 = 15;
 }
 
 // A record step: the kind, where the body starts, its length, and where the next record starts.

@@ -3,6 +3,12 @@
 -- Names used outside this group, file by file.
 
 -- the limits of a tree, part by part, and its held value, node by node
+--   tree-limits   a tree is within the limits exactly if it keeps each of them
+--   Fits          in a part whose root is at a depth, no atom is too deep, has other than n coefficients or a number beyond its limit
+--   fits-tree     a part that fits at a depth is no deeper than is left, and each of its atoms fits
+--   leafOf        the atom of a node that is one
+--   Narrow        each atom has at most six coefficients
+--   held-more     a node noted in a held value gives the held value of one node more
 pub mod Limits
 -- the bytes of a tree within the limits are read as its held value
 pub mod Read

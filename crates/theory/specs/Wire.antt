@@ -13,6 +13,7 @@
 --   failing-at         where the checks before a check are passed and it fails, the refusal is by its number and its place
 --   FirstFailing       a check fails, those before it are passed, and the refusal r is by its number and its place
 --   some-iff-failing   checks give the refusal r exactly if it is that of the first that fails
+--   passed-append      behind checks that are passed, those that follow decide
 --   EveryNumber        P holds of the number of every check
 --   failing-numbered   and so of that of the first that fails
 --   onward-stopped     work that was stopped stays so, however many steps are left

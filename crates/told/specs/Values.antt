@@ -64,7 +64,7 @@ unfolding numbers
 numbers-more [] v = append-nil (spaced v)
 numbers-more (a ∷ l) v = ap (λ (t : List ℕ). spaced a ++ t) (numbers-more l v) ∙ sym (append-assoc (spaced a) (numbers l) (spaced v))
 
-values-more : (count j : ℕ) (w : Word) → valuesFrom (suc count) j w ≡ valuesFrom count j w ++ (value w (j + count) ∷ [])
+pub values-more : (count j : ℕ) (w : Word) → valuesFrom (suc count) j w ≡ valuesFrom count j w ++ (value w (j + count) ∷ [])
 unfolding valuesFrom
 values-more zero j w = rw (add-zero j)
 values-more (suc count) j w =

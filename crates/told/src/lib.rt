@@ -18,7 +18,7 @@ const LETTERS: usize = 1_024;
 // Room for every text: 1,024 letters of up to three digits, six values and the states of up to twenty, and the words.
 const LONGEST: usize = 4_352;
 
-fn put_byte(byte: u8, out: &mut [u8], at: usize) -> usize
+pub fn put_byte(byte: u8, out: &mut [u8], at: usize) -> usize
     requires { ⌜ at < length (now out) ⌝ }
     ensures { λ r. ⌜ Put (byte ∷ []) at (now (out .entry)) r (now (out .exit)) ⌝ }
 {
@@ -26,7 +26,7 @@ fn put_byte(byte: u8, out: &mut [u8], at: usize) -> usize
     at + 1
 }
 
-fn put_bytes(bytes: &[u8], out: &mut [u8], at: usize) -> usize
+pub fn put_bytes(bytes: &[u8], out: &mut [u8], at: usize) -> usize
     requires { ⌜ at + length (now bytes) ≤ length (now out) ⌝ }
     ensures { λ r. ⌜ Put (now (bytes .entry)) at (now (out .entry)) r (now (out .exit)) ⌝ }
 {
@@ -47,7 +47,7 @@ fn digit(d: u64) -> u8
     48 + d as u8
 }
 
-fn put_decimal(v: u64, out: &mut [u8], at: usize) -> usize
+pub fn put_decimal(v: u64, out: &mut [u8], at: usize) -> usize
     requires { ⌜ at + length (decimal v) ≤ length (now out) ⌝ }
     ensures { λ r. ⌜ Put (decimal v) at (now (out .entry)) r (now (out .exit)) ⌝ }
 {
@@ -59,7 +59,7 @@ fn put_decimal(v: u64, out: &mut [u8], at: usize) -> usize
 }
 
 // A number after a space.
-fn put_number(v: u64, out: &mut [u8], at: usize) -> usize
+pub fn put_number(v: u64, out: &mut [u8], at: usize) -> usize
     requires { ⌜ at + 21 ≤ length (now out) ⌝ }
     ensures { λ r. ⌜ Put (spaced v) at (now (out .entry)) r (now (out .exit)) × (r ≤ at + 21) ⌝ }
 {
@@ -111,7 +111,7 @@ fn letters_line(word: &[u8], out: &mut [u8], at: usize) -> usize
 }
 
 // The value of a variable, from a word that spelling takes.
-fn value_of(n: usize, variable: usize, word: &[u8]) -> u64
+pub fn value_of(n: usize, variable: usize, word: &[u8]) -> u64
     requires { ⌜ Spellable n (now word) × (1 ≤ variable) × (variable ≤ n) ⌝ }
     ensures { λ r. ⌜ r ≡ value (now (word .entry)) (variable - 1) ⌝ }
 {
@@ -210,7 +210,7 @@ fn refused_text(refusal: Refusal, out: &mut [u8]) -> usize
 }
 
 // The word at the front of its buffer.
-fn word_of<'a>(word: &'a [u8], letters: usize) -> &'a [u8]
+pub fn word_of<'a>(word: &'a [u8], letters: usize) -> &'a [u8]
     ensures { λ r. ⌜ now r ≡ take letters (now (word .entry)) ⌝ }
 {
     if letters <= word.len() {

@@ -1,4 +1,5 @@
 // read BYTES = accepted N CODES COEFFICIENTS CONSTANTS | refused NUMBER PLACE
+// import TEXT held N CODES COEFFICIENTS CONSTANTS | refused NUMBER PLACE
 // write N CODES COEFFICIENTS CONSTANTS ROOM = written BYTES | refused NUMBER PLACE
 // record BYTES AT = record KIND BODY NEXT | refused NUMBER PLACE
 use crate::numbers::BYTES;
@@ -20,6 +21,7 @@ use compared::buffers::front_bytes;
 use compared::buffers::same_question;
 use compared::buffers::stretch;
 use compared::text::rest;
+use scope::Held;
 use scope::Question;
 use scope::ReadAnswer;
 use scope::RecordAnswer;
@@ -81,19 +83,27 @@ fn question_right(four: &[u8], question: Question) -> bool {
     is_question(four) & same_question(question, question_in(four))
 }
 
-pub fn read_right(line: &[u8], bytes: &[u8]) -> bool {
-    let told = outcome(line, 2);
-    let held = reading::read(bytes);
+// Whether an outcome is what reading or importing gives: a name and a question, or a refusal and the empty one.
+fn held_right(told: &[u8], name: &[u8], held: Held) -> bool {
     let answer = held.answer;
     let question = held.question;
     match answer {
         ReadAnswer::Accepted => {
-            is_said(told, b"accepted", 5) & question_right(rest(told, 1, b' '), question)
+            is_said(told, name, 5) & question_right(rest(told, 1, b' '), question)
         }
         ReadAnswer::Refused(refusal) => {
             is_refused(told, refusal) & same_question(question, Question::empty())
         }
     }
+}
+
+pub fn read_right(line: &[u8], bytes: &[u8]) -> bool {
+    held_right(outcome(line, 2), b"accepted", reading::read(bytes))
+}
+
+pub fn import_right(line: &[u8], text: &[u8]) -> bool {
+    let import = importing::import(text);
+    held_right(outcome(line, 2), b"held", import.held)
 }
 
 // Whether bytes are those of a text in hexadecimal.

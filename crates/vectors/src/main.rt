@@ -15,7 +15,7 @@ use compared::buffers::stretch;
 use libc::STDOUT_FILENO;
 
 // The most bytes of a file of vectors.
-const TEXT: usize = 150_000;
+const TEXT: usize = 500_000;
 
 // Runs the vectors of an open file.
 fn run_open(file: i32) {
@@ -43,4 +43,5 @@ fn run_file(name: &[u8]) {
 fn main() {
     run_file(b"base.txt");
     run_file(b"e1.txt");
+    run_file(b"e2.txt");
 }

@@ -11,7 +11,7 @@ pub const NONE: u64 = 18_446_744_073_709_551_615;
 pub const BELOW: u64 = 9_223_372_036_854_775_808;
 
 // The bytes of a question in a line at most.
-pub const BYTES: usize = 2_048;
+pub const BYTES: usize = 4_400;
 
 fn byte_at(text: &[u8], i: usize) -> u8 {
     if i < text.len() { text[i] } else { 0 }
@@ -144,7 +144,7 @@ pub fn is_hex(text: &[u8]) -> bool {
 
 // The byte in a place of a text in hexadecimal.
 fn hex_at(text: &[u8], i: usize) -> u8
-    requires { ⌜ i ≤ 2048 ⌝ }
+    requires { ⌜ i ≤ 4400 ⌝ }
 {
     16 * nibble(byte_at(text, 2 * i)) + nibble(byte_at(text, 2 * i + 1))
 }

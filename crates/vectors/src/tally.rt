@@ -1,6 +1,7 @@
 // The lines of a file one by one, the call of each, and the counts.
 use crate::areas::build_right;
 use crate::areas::decide_right;
+use crate::as_bytes::import_right;
 use crate::as_bytes::read_right;
 use crate::as_bytes::record_right;
 use crate::as_bytes::write_right;
@@ -20,21 +21,25 @@ use compared::buffers::stretch;
 use compared::text::word;
 use libc::STDOUT_FILENO;
 
-// The kinds of line, by number: the calls, then deciding and building as base.txt has them, in rows, and the last for a line of no kind.
+// The kinds of line, by number: the calls, then deciding and building as base.txt has them, in rows, importing, and the last for a line of no kind.
 // The counts of right lines come first, and then those of wrong ones.
-const KINDS: usize = 11;
+const KINDS: usize = 12;
 
-const COUNTS: usize = 22;
+const COUNTS: usize = 24;
 
-// Only the lines of base.txt have no `=`. Here it stands for a kind that they, or the others, do not have.
+// Only the lines of base.txt and e2.txt have no `=`. Here it stands for a kind that they, or the others, do not have.
 fn kind_of(line: &[u8]) -> usize {
     let call = part(line, 0);
     if marks(line, b'=') == 0 {
-        place_of(b"read write = judge spell = = = decide build", 10, call)
+        place_of(
+            b"read write = judge spell = = = decide build import",
+            11,
+            call,
+        )
     } else {
         place_of(
-            b"read write record judge spell ask decide build = =",
-            10,
+            b"read write record judge spell ask decide build = = =",
+            11,
             call,
         )
     }
@@ -51,6 +56,7 @@ fn asked_right(kind: usize, line: &[u8], bytes: &[u8]) -> bool {
         7 => build_right(line, bytes),
         8 => decide_rows_right(line, bytes),
         9 => build_rows_right(line, bytes),
+        10 => import_right(line, bytes),
         _ => false,
     }
 }
@@ -86,7 +92,7 @@ fn run_line(line: &[u8], number: usize) -> usize {
 }
 
 fn print_name(kind: usize) {
-    let names = b"read write record judge spell ask decide build decide build other";
+    let names = b"read write record judge spell ask decide build decide build import other";
     io::write_all(STDOUT_FILENO, part(names, kind));
     io::write_all(STDOUT_FILENO, b" ");
 }

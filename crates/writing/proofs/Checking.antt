@@ -2,23 +2,21 @@
 use mathlib.Core.Path.{_≡_, refl, sym, ap, _∙_}
 use mathlib.Core.Bool.{Bool, true, false, not, cond}
 use mathlib.Core.Option.{Option, none, some}
-use mathlib.Core.List.{[], _∷_, _++_}
-use Prim.Native.Nat.{ℕ, zero, suc, _+_, _*_, _<_, _≤_}
+use mathlib.Core.List.{[], _++_}
+use Prim.Native.Nat.{ℕ, zero, suc, _+_, _<_, _≤_}
 use native.Mathlib.Omega.{arith}
 use borrow.Author.Tests.{lt-ltb, le-ltb, lt-leb, ne-eqb}
 use lib.Dec.{T, leb, ltb, leb→le, ltb→lt}
-use lib.IntN.{pos}
-use lib.ListN.{getD, take, drop}
+use lib.ListN.{getD}
 use Rattle.scope.specs.declared.Question.{Question}
 use Rattle.scope.specs.declared.Refusal.{Refusal}
-use Rattle.scope.specs.Whole.{all, allFrom}
-use Rattle.scope.specs.Sizes.{mostVariables, mostAtoms, mostNodes, mostDepth, variablesFit, coefficientFits, constantFits}
+use Rattle.scope.specs.Whole.{allFrom}
+use Rattle.scope.specs.Sizes.{mostAtoms, mostNodes, mostDepth, variablesFit}
 use Rattle.scope.specs.Question.{Node, unused, nodeOf, isUnused, isAtom, coefficientsOf, constantOf}
-use Rattle.scope.specs.Refusals.{NOT-DUE, BEYOND-LIMIT, TOO-MANY, LEFT-OVER, COEFFICIENT-BEYOND, CONSTANT-BEYOND, check, refusal, firstRefusal, Progress, stopped, going, ended, orStopped, onward}
+use Rattle.scope.specs.Refusals.{NOT-DUE, BEYOND-LIMIT, TOO-MANY, LEFT-OVER, refusal, firstRefusal, Progress, stopped, going, ended, orStopped, onward}
 use Rattle.scope.specs.Wire.{endKind, fieldChecks}
 use Rattle.scope.specs.Writing.{recordBytes, Walk, firstWalk, headWritten, nodeHeld, nodeHeldChecks, partWritten, numbersClear, numberChecks, leftOverChecks, endWritten, written}
 use Rattle.theory.specs.Wire.Checks.{none-passed, onward-stopped}
-use Rattle.theory.specs.Wire.Fields.{row-beyond, row-within}
 use Rattle.theory.specs.Wire.Records.{code-of-node}
 use Rattle.theory.specs.Wire.WritingSteps.{head-written}
 use Rattle.records.specs.declared.nodes.NodeAnswer.{NodeAnswer}
@@ -26,32 +24,13 @@ use Rattle.records.specs.Formula.{counts, sizeFits}
 use Rattle.records.specs.Parts.{codeOr, nodeOr}
 use Rattle.records.proofs.Codes.{Coded, coded}
 use Rattle.records.proofs.Checks.{true-T, first-failed, first-passed, no-room, some-room, too-large, small-enough, few-atoms, no-numbers, atom-numbers, node-none, node-some}
-use Rattle.writing.specs.Writes.{bytesTo, bareQuestion, numbersAnswer, codeAnswer, walkAt, formulaWritten, CodeLeft, coefficientClear, constantClear}
+use Rattle.fields.specs.Fields.{bareQuestion, numbersAnswer}
+use Rattle.writing.specs.Writes.{bytesTo, codeAnswer, walkAt, formulaWritten, CodeLeft, coefficientClear, constantClear}
 
 -- ---- an atom's numbers
 
 module _ (q : Question) (a : ℕ) where
   module _ (node code : ℕ) where
-    abbrev answered : Option Refusal → NodeAnswer
-    answered o = codeOr o code
-
-    pub coefficient-beyond : all coefficientFits (take (q .n) (drop (mostVariables * a) (q .coefficients))) ≡ false → NodeAnswer.Refused (refusal COEFFICIENT-BEYOND node) ≡ numbersAnswer q a node code
-    unfolding coefficientsOf
-    coefficient-beyond e = sym (ap answered (row-beyond node (constantOf q a) (coefficientsOf q a) e))
-
-    module _ (e : all coefficientFits (take (q .n) (drop (mostVariables * a) (q .coefficients))) ≡ true) where
-      last-field : firstRefusal (fieldChecks node 0 (coefficientsOf q a) (constantOf q a)) ≡ firstRefusal (check CONSTANT-BEYOND node (constantFits (constantOf q a)) ∷ [])
-      unfolding coefficientsOf
-      last-field = row-within node (constantOf q a) (coefficientsOf q a) e
-
-      pub constant-beyond : constantFits (getD (q .constants) a (pos 0)) ≡ false → NodeAnswer.Refused (refusal CONSTANT-BEYOND node) ≡ numbersAnswer q a node code
-      unfolding constantOf
-      constant-beyond f = sym (ap answered (last-field ∙ first-failed CONSTANT-BEYOND node (constantFits (constantOf q a)) [] f))
-
-      pub numbers-within : constantFits (getD (q .constants) a (pos 0)) ≡ true → NodeAnswer.Node code ≡ numbersAnswer q a node code
-      unfolding constantOf firstRefusal
-      numbers-within f = sym (ap answered (last-field ∙ first-passed CONSTANT-BEYOND node (constantFits (constantOf q a)) [] f))
-
     -- the codes have no part in it
     pub numbers-alone : numbersAnswer (bareQuestion (q .n) (q .coefficients) (q .constants)) a node code ≡ numbersAnswer q a node code
     unfolding coefficientsOf constantOf

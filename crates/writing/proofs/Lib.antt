@@ -3,6 +3,5 @@ mod Sweeps
 mod Checking
 mod Lengths
 mod Walks
-mod Stores
 mod Placing
 mod Outcomes

@@ -13,9 +13,10 @@ use Rattle.scope.specs.Question.{Node, isAtom, coefficientsOf, constantOf}
 use Rattle.scope.specs.Wire.{endKind, kindOf, bodyLength}
 use Rattle.scope.specs.Writing.{twoBytes, recordBytes, atomBody, nodeBytes}
 use Rattle.theory.specs.Wire.Records.{body-length}
-use Rattle.writing.specs.Writes.{codeNode, atomsTo, bytesTo, bareQuestion}
+use Rattle.fields.specs.Fields.{bareQuestion}
+use Rattle.writing.specs.Writes.{codeNode, atomsTo, bytesTo}
 use Rattle.writing.proofs.Lengths.{row-length, bytes-head, bytes-next, atoms-first, atoms-next}
-use Rattle.writing.proofs.Stores.{sets-append}
+use Rattle.fields.proofs.Stores.{sets-append}
 
 -- ---- a node's record
 

@@ -1,4 +1,4 @@
--- Tests that sweep a list: a row of numbers, every element by its index, and what is left over of numbers and codes.
+-- Tests that sweep a list: every element by its index, and what is left over of numbers and codes.
 use mathlib.Core.Path.{_≡_, refl, sym, _∙_}
 use mathlib.Core.Bool.{Bool, true, false, cond, _&&_, _||_}
 use mathlib.Core.Option.{some}
@@ -24,34 +24,6 @@ use Rattle.writing.specs.Writes.{CodeLeft, isZero, coefficientClear, con
 pub zero-test : (z : ℤ) → SFits w32 z → eqb (ofZ w32 z) 0 ≡ eqZ z (pos 0)
 zero-test (pos n) f = refl
 zero-test (negsuc n) f = ne-eqb (4294967296 - suc n) 0 (λ e. omega (arith, f .sfits))
-
--- ---- a row of numbers, from one of its cells on
-
-module _ (f : ℤ → Bool) (l : List ℤ) (cell n : ℕ) where
-  abbrev pub RowFrom : ℕ → Type 0
-  RowFrom i = (i ≤ n) × (all f (take (n - i) (drop (cell + i) l)) ≡ all f (take n (drop cell l)))
-
-  pub row-start : RowFrom 0
-  row-start = let z : n - 0 ≡ n = omega arith in let y : cell + 0 ≡ cell = omega arith in (omega arith, rw (z, y))
-
-  module _ (i : ℕ) (fits : cell + n ≤ length l) (h : i < n) (inv : RowFrom i) where
-    row-next : all f (take n (drop cell l)) ≡ f (getD l (cell + i) (pos 0)) && all f (take (n - (i + 1)) (drop (cell + (i + 1)) l))
-    unfolding all
-    row-next =
-        let z : n - i ≡ suc (n - (i + 1)) = omega arith in
-        let y : cell + (i + 1) ≡ suc (cell + i) = omega arith in
-        let k : cell + i < length l = omega arith in
-        sym (inv .1) ∙ rw (z, y, drop-cons l (cell + i) (pos 0) k)
-
-    pub row-again : f (getD l (cell + i) (pos 0)) ≡ true → RowFrom (i + 1)
-    row-again t = (omega arith, rw t at (sym row-next))
-
-    pub row-not : f (getD l (cell + i) (pos 0)) ≡ false → false ≡ all f (take n (drop cell l))
-    row-not t = rw t at (sym row-next)
-
-  pub row-whole : (i : ℕ) → n ≤ i → RowFrom i → true ≡ all f (take n (drop cell l))
-  unfolding all
-  row-whole i h inv = let z : n - i ≡ 0 = omega arith in rw z at (inv .1)
 
 -- ---- every element by its index, a stretch at a time
 

@@ -11,14 +11,14 @@ use Rattle.scope.specs.declared.Question.{Question}
 use Rattle.scope.specs.declared.WriteAnswer.{WriteAnswer}
 use Rattle.scope.specs.Whole.{eqZ}
 use Rattle.scope.specs.Sizes.{mostVariables, mostAtoms, mostNodes, mostBytes}
-use Rattle.scope.specs.Question.{Node, nodeOf, isAtom, coefficientsOf, constantOf}
+use Rattle.scope.specs.Question.{Node, nodeOf, isAtom}
 use Rattle.scope.specs.Refusals.{LEFT-OVER, Check, refusal, firstRefusal, Progress, stopped, going, ended, onward}
-use Rattle.scope.specs.Wire.{bodyLength, headKind, endKind, fieldChecks}
+use Rattle.scope.specs.Wire.{bodyLength, headKind, endKind}
 use Rattle.scope.specs.Writing.{recordBytes, nodeBytes, Walk, firstWalk, nodeHeld, nodeHeldChecks, partWritten, codeChecks, coefficientUsed, written, wrote}
 use Rattle.theory.specs.Wire.Held.{Sized}
 use Rattle.records.specs.declared.nodes.NodeAnswer.{NodeAnswer}
 use Rattle.records.specs.Formula.{counts}
-use Rattle.records.specs.Parts.{codeOr, nodeOr, heldQuestion}
+use Rattle.records.specs.Parts.{nodeOr}
 use Rattle.writing.specs.declared.checks.FormulaAnswer.{FormulaAnswer}
 
 -- ---- a call's outcome
@@ -45,10 +45,6 @@ bytesTo q (suc i) = bytesTo q i ++ nodeBytes q (codeNode q i) (atomsTo q i)
 -- the formula by its counts, and its bytes
 abbrev pub walkAt : Question → ℕ → ℕ → Walk
 walkAt q nodes atoms = record { shape = counts nodes atoms; bytes = bytesTo q nodes }
-
--- the numbers of an atom, at its node
-abbrev pub numbersAnswer : Question → ℕ → ℕ → ℕ → NodeAnswer
-numbersAnswer q atom node code = codeOr (firstRefusal (fieldChecks node 0 (coefficientsOf q atom) (constantOf q atom))) code
 
 abbrev pub codeAnswer : Question → ℕ → Walk → NodeAnswer
 codeAnswer q depth w = nodeOr (firstRefusal (nodeHeldChecks q depth w)) (nodeHeld q w)
@@ -91,12 +87,6 @@ coefficientClear n atoms c z = coefficientUsed n atoms c || isZero z
 
 abbrev pub constantClear : ℕ → ℕ → ℤ → Bool
 constantClear atoms i z = ltb i atoms || isZero z
-
--- ---- a question's numbers
-
--- the question by its numbers alone: what is said of it looks at no code
-abbrev pub bareQuestion : ℕ → List ℤ → List ℤ → Question
-bareQuestion n coefficients constants = heldQuestion n [] coefficients constants
 
 -- ---- room in a buffer
 

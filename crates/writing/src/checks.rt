@@ -4,17 +4,17 @@ ghost use mathlib.Core.Bool.{not};
 ghost use Prim.Native.Nat.{_+_, _*_, _≤_, _<_};
 ghost use lib.ListN.{length, take, drop};
 ghost use Rattle.scope.specs.Whole.{all, allFrom};
-ghost use Rattle.scope.specs.Sizes.{mostVariables, mostAtoms, mostNodes, coefficientFits};
+ghost use Rattle.scope.specs.Sizes.{mostVariables, mostAtoms, mostNodes};
 ghost use Rattle.scope.specs.Question.{nodeOf, isUnused};
 ghost use Rattle.scope.specs.Writing.{numbersClear};
 ghost use Rattle.theory.specs.Wire.Held.{Sized};
-ghost use Rattle.records.specs.Parts.{heldQuestion, AtomHeld};
-ghost use Rattle.writing.specs.Writes.{bareQuestion, walkAt, numbersAnswer, codeAnswer, FormulaSays, CheckedSays, CodeLeft, isZero, coefficientClear, constantClear};
+ghost use Rattle.records.specs.Parts.{heldQuestion};
+ghost use Rattle.fields.specs.Fields.{bareQuestion};
+ghost use Rattle.writing.specs.Writes.{walkAt, codeAnswer, FormulaSays, CheckedSays, CodeLeft, isZero, coefficientClear, constantClear};
+use fields::atom_at;
 use records::DUE;
 use records::NodeAnswer;
 use records::body_length;
-use records::coefficient_fits;
-use records::constant_fits;
 use records::count_of;
 use records::grown;
 use records::refused;
@@ -33,42 +33,6 @@ pub enum FormulaAnswer {
         len: usize,
     },
     Refused(Refusal),
-}
-
-// The n coefficients from a cell on.
-pub fn row_fits(coefficients: &[i32], cell: usize, n: usize) -> bool
-    requires { ⌜ cell + n ≤ length (now coefficients) ⌝ }
-    ensures { λ r. ⌜ r ≡ all coefficientFits (take n (drop cell (now (coefficients .entry)))) ⌝ }
-{
-    let mut i = 0;
-    while i < n {
-        if !coefficient_fits(coefficients[cell + i]) {
-            return false;
-        }
-        i += 1;
-    }
-    true
-}
-
-// The numbers of an atom: one beyond its limit is refused at the node.
-pub fn atom_at(
-    n: usize,
-    coefficients: &[i32],
-    constants: &[i32],
-    atom: usize,
-    node: usize,
-    code: u8,
-) -> NodeAnswer
-    requires { ⌜ AtomHeld n (now coefficients) (now constants) atom ⌝ }
-    ensures { λ r. ⌜ r ≡ numbersAnswer (bareQuestion n (now (coefficients .entry)) (now (constants .entry))) atom node code ⌝ }
-{
-    if !row_fits(coefficients, Question::VARIABLES * atom, n) {
-        return refused(Refusal::COEFFICIENT_BEYOND, node);
-    }
-    if constant_fits(constants[atom]) {
-        return NodeAnswer::Node(code);
-    }
-    refused(Refusal::CONSTANT_BEYOND, node)
 }
 
 pub fn is_node(code: u8) -> bool

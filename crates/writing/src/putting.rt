@@ -6,16 +6,16 @@ ghost use Prim.Native.Nat.{_+_, _*_, _≤_, _<_};
 ghost use lib.ListN.{length};
 ghost use lib.Seq.{sets};
 ghost use Rattle.scope.specs.Sizes.{mostVariables, mostNodes};
-ghost use Rattle.scope.specs.Question.{nodeOf, isAtom, coefficientsOf, constantOf};
+ghost use Rattle.scope.specs.Question.{nodeOf, isAtom};
 ghost use Rattle.scope.specs.Wire.{headKind, endKind, kindOf};
-ghost use Rattle.scope.specs.Writing.{twoBytes, recordBytes, atomBody, nodeBytes};
-ghost use Rattle.records.specs.Parts.{heldQuestion, AtomHeld};
-ghost use Rattle.writing.specs.Writes.{bytesTo, bareQuestion, NodeRoom, QuestionRoom};
+ghost use Rattle.scope.specs.Writing.{twoBytes, recordBytes, nodeBytes};
+ghost use Rattle.records.specs.Parts.{heldQuestion};
+ghost use Rattle.fields.specs.Fields.{bareQuestion};
+ghost use Rattle.writing.specs.Writes.{bytesTo, NodeRoom, QuestionRoom};
+use fields::put_atom;
 use records::body_length;
 use records::count_of;
-use scope::Question;
 use scope::is_atom;
-use whole::put_number;
 
 pub fn put_two(bytes: &mut [u8], at: usize, two: u16)
     requires { ⌜ at + 2 ≤ length (now bytes) ⌝ }
@@ -39,27 +39,6 @@ pub fn put_head(bytes: &mut [u8], n: u8)
 {
     put_header(bytes, 0, 0x0001, 1);
     bytes[4] = n;
-}
-
-// The body of an atom.
-pub fn put_atom(
-    n: usize,
-    coefficients: &[i32],
-    constants: &[i32],
-    atom: usize,
-    bytes: &mut [u8],
-    at: usize,
-)
-    requires { ⌜ AtomHeld n (now coefficients) (now constants) atom × (at + 4 * (n + 1) ≤ length (now bytes)) ⌝ }
-    ensures { λ _. ⌜ now (bytes .exit) ≡ sets (now (bytes .entry)) at (atomBody (coefficientsOf (bareQuestion n (now (coefficients .entry)) (now (constants .entry))) atom) (constantOf (bareQuestion n (now (coefficients .entry)) (now (constants .entry))) atom)) ⌝ }
-{
-    let row = Question::VARIABLES * atom;
-    let mut j = 0;
-    while j < n {
-        put_number(bytes, at + 4 * j, coefficients[row + j]);
-        j += 1;
-    }
-    put_number(bytes, at + 4 * n, constants[atom]);
 }
 
 pub fn kind_of_code(code: u8) -> u16

@@ -2,6 +2,7 @@
 use native.Mathlib.Omega.{arith}
 use Prim.Native.Nat.{_-_}
 use lib.ListN.{length}
+use lib.Seq.{sets}
 use borrow.Author.Tests.{ltb-false}
 use denote.Ref.{now}
 use mathlib.Core.Path.{refl}
@@ -11,31 +12,28 @@ use Rattle.lent.proofs.lending.copy_bytes.Statement.{statement}
 use Rattle.lent.proofs.lending.copy_bytes.Tie as tie
 
 abbrev Inv-loop : tie.InvT-loop
-Inv-loop from to₀ i₀ to i = CopyFrom to₀ to from i
+Inv-loop from to₀ i₀ to i = CopyFrom to₀ to from (sets to₀ 0 from) i i
 
 abbrev μ-loop : tie.MeasureT-loop
 μ-loop from to₀ i₀ to i = length from - i
 
 loop-holds : tie.Need-loop-holds Inv-loop μ-loop
-loop-holds c = let a = c .args in copy-start (now (a .to)) (now (a .from))
+loop-holds c = let a = c .args in copy-start (now (a .to)) (now (a .from)) 0
 
 loop-again : tie.Need-loop-again Inv-loop μ-loop
 loop-again c =
     let l = c .before .before .before .loop in
-    let a = c .before .before .before .before .args in
-    copy-again (now (a .to)) (l .to) (now (a .from)) (l .i) (l .inv) _ _ refl (omega arith)
+    copy-again (l .inv) _ _ refl (omega arith)
 
 returns : tie.Need-returns Inv-loop μ-loop
 returns c =
     let l = c .before .before .loop in
-    let a = c .before .before .before .args in
-    copy-full (now (a .to)) (l .to) (now (a .from)) (l .i) (l .inv) (omega (arith, ltb-false (l .i) (length (l .to)) (c .if1 .left)))
+    copy-full (l .inv) (omega (arith, ltb-false (l .i) (length (l .to)) (c .if1 .left)))
 
 returns-2 : tie.Need-returns-2 Inv-loop μ-loop
 returns-2 c =
     let l = c .before .loop in
-    let a = c .before .before .args in
-    copy-ended (now (a .to)) (l .to) (now (a .from)) (l .i) (l .inv) (omega arith)
+    copy-ended (l .inv) (omega arith)
 
 pub copy-bytes-spec : {M : Type 1} → statement M
 copy-bytes-spec =

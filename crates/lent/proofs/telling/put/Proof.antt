@@ -2,7 +2,7 @@
 use native.Mathlib.Omega.{arith}
 use Prim.Native.Nat.{_-_}
 use lib.ListN.{length, take, drop, length-drop}
-use lib.Seq.{length-take-le, getD-take, getD-drop}
+use lib.Seq.{sets, length-take-le, getD-take, getD-drop}
 use borrow.Author.Tests.{ltb-true, ltb-false}
 use denote.Ref.{now}
 use mathlib.Core.Path.{_≡_, refl, sym, _∙_}
@@ -13,13 +13,13 @@ use Rattle.lent.proofs.telling.put.Statement.{statement}
 use Rattle.lent.proofs.telling.put.Tie as tie
 
 abbrev Inv-loop : tie.InvT-loop
-Inv-loop count told₀ all i₀ told i = CopyFrom told₀ told (take count (drop 1 all)) i
+Inv-loop count told₀ all i₀ told i = CopyFrom told₀ told (take count (drop 1 all)) (sets told₀ 0 (take count (drop 1 all))) i i
 
 abbrev μ-loop : tie.MeasureT-loop
 μ-loop count told₀ all i₀ told i = count - i
 
 loop-holds : tie.Need-loop-holds Inv-loop μ-loop
-loop-holds c = let a = c .args in copy-start (now (a .told)) (take (a .count) (drop 1 (a .t1)))
+loop-holds c = let a = c .args in copy-start (now (a .told)) (take (a .count) (drop 1 (a .t1))) 0
 
 array-read-told : tie.Need-array-read-told Inv-loop μ-loop
 array-read-told c = let s = c .before .before .before in omega (arith, s .pre .0, ltb-true (c .before .before .loop .i) (s .args .count) (c .if1 .taken))
@@ -36,7 +36,7 @@ loop-again c =
     let s = c .before .before .before in
     let a = s .args in
     let below = ltb-true (l .i) (a .count) (c .if1 .taken) in
-    copy-again (now (a .told)) (l .told) (take (a .count) (drop 1 (a .t1))) (l .i) (l .inv) _ 0
+    copy-again (l .inv) _ 0
     (sym (getD-take (a .count) (drop 1 (a .t1)) (l .i) 0 below ∙ getD-drop 1 (a .t1) (l .i) 0))
     (rw (long s) below)
 
@@ -49,8 +49,8 @@ returns c =
       number = refl;
       told =
           ⊎-elim
-          (λ came. copy-ended (now (a .told)) (l .told) (take (a .count) (drop 1 (a .t1))) (l .i) (l .inv) (rw (long s) (ltb-false (l .i) (a .count) (came .1 .left))))
-          (λ came. copy-full (now (a .told)) (l .told) (take (a .count) (drop 1 (a .t1))) (l .i) (l .inv) (omega (arith, came .left)))
+          (λ came. copy-ended (l .inv) (rw (long s) (ltb-false (l .i) (a .count) (came .1 .left))))
+          (λ came. copy-full (l .inv) (omega (arith, came .left)))
           (c .loop-test .came);
     }
 

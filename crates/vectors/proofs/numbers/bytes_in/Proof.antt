@@ -8,7 +8,7 @@ abbrev Inv-loop : tie.InvT-loop
 Inv-loop text bytes₀ n i₀ bytes i = Unit
 
 abbrev μ-loop : tie.MeasureT-loop
-μ-loop text bytes₀ n i₀ bytes i = 2048 - i
+μ-loop text bytes₀ n i₀ bytes i = 4400 - i
 
 pub bytes-in-spec : {M : Type 1} → statement M
 bytes-in-spec =

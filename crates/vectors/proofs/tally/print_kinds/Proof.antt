@@ -8,7 +8,7 @@ abbrev Inv-loop : tie.InvT-loop
 Inv-loop counts kind₀ kind = Unit
 
 abbrev μ-loop : tie.MeasureT-loop
-μ-loop counts kind₀ kind = 11 - kind
+μ-loop counts kind₀ kind = 12 - kind
 
 pub print-kinds-spec : {M : Type 1} → statement M
 print-kinds-spec =

@@ -2,7 +2,7 @@
 use borrow.Author.Needs.{needs}
 use mathlib.Core.Path.{sym, _∙_}
 use denote.Ref.{now}
-use Rattle.writing.specs.Writes.{bareQuestion}
+use Rattle.fields.specs.Fields.{bareQuestion}
 use Rattle.writing.proofs.Checking.{cells-clear, cells-left}
 use Rattle.writing.proofs.checks.numbers_clear.Statement.{statement}
 use Rattle.writing.proofs.checks.numbers_clear.Tie as tie

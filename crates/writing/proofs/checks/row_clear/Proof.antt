@@ -7,7 +7,8 @@ use lib.ListN.{getD}
 use denote.Ref.{now}
 use borrow.Author.Tests.{eq-eqb, ne-eqb}
 use Rattle.writing.specs.Writes.{isZero}
-use Rattle.writing.proofs.Sweeps.{zero-test, RowFrom, row-start, row-again, row-not, row-whole}
+use Rattle.fields.proofs.Rows.{RowFrom, row-start, row-again, row-not, row-whole}
+use Rattle.writing.proofs.Sweeps.{zero-test}
 use Rattle.writing.proofs.checks.row_clear.Statement.{statement}
 use Rattle.writing.proofs.checks.row_clear.Tie as tie
 

@@ -5,7 +5,7 @@ use mathlib.Core.List.{List}
 use lib.Seq.{sets}
 use denote.Ref.{now}
 use Rattle.scope.specs.Writing.{twoBytes}
-use Rattle.writing.proofs.Stores.{sets-append}
+use Rattle.fields.proofs.Stores.{sets-append}
 use borrow.Author.Needs.{needs}
 use Rattle.writing.proofs.putting.put_header.Statement.{statement}
 use Rattle.writing.proofs.putting.put_header.Tie as tie

@@ -7,7 +7,7 @@ use denote.Ref.{now}
 use Rattle.scope.specs.declared.Question.{Question}
 use Rattle.scope.specs.Question.{nodeOf, isAtom}
 use Rattle.scope.specs.Wire.{bodyLength}
-use Rattle.writing.specs.Writes.{bareQuestion}
+use Rattle.fields.specs.Fields.{bareQuestion}
 use Rattle.writing.proofs.Lengths.{body-small}
 use Rattle.writing.proofs.Placing.{put-plain, put-with-body, body-is}
 use borrow.Author.Needs.{needs}

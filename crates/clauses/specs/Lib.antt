@@ -1,0 +1,2 @@
+-- The words of the contracts: what a formula that was read says.
+pub mod Read

@@ -1,0 +1,3 @@
+-- The words of the contracts.
+pub mod Codes
+pub mod Spots

@@ -1,0 +1,2 @@
+-- What the program smt prints.
+pub mod Said
