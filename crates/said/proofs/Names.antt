@@ -6,7 +6,7 @@ use mathlib.Core.List.{List, [], _∷_, _++_, append-assoc, append-nil}
 use mathlib.Core.Logic.{by-cases}
 use native.Mathlib.Decide.{decLt}
 use native.Mathlib.Omega.{arith}
-use native.Mathlib.Nat.{add-zero}
+use native.Mathlib.Nat.{add-zero, mul-le-mul-right, suc-mul}
 use native.Mathlib.Numerals.{add-one}
 use lib.ListN.{length, take, drop, getD, length-take, length-drop, drop-of-length-le}
 use Rattle.scope.specs.Words.{Word, value, valuesFrom, spelled}
@@ -47,9 +47,7 @@ lines-more text bounds i w v e =
     sym (ap (defineLines text bounds 0) g ∙ lines-append text bounds 0 (spelled i w) v ∙ ap (λ (j : ℕ). defineLines text bounds 0 (spelled i w) ++ lineAt text bounds j v) k)
 
 pub one-row-more : (i n m : ℕ) → i < n → i * m + m ≤ n * m
-one-row-more i zero m h = absurd (omega arith)
-one-row-more zero (suc n) m h = omega arith
-one-row-more (suc i) (suc n) m h = omega (arith, one-row-more i n m (omega arith))
+one-row-more i n m h = omega (arith, suc-mul i m, mul-le-mul-right m h)
 
 -- ---- a stretch, as far as the text has it
 
