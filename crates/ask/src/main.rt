@@ -1,4 +1,6 @@
 // The asking program: reads a question from standard input, decides it and prints the answer. What is printed is told of the first 1,024 bytes.
+#![tactic(auto)]
+
 ghost use Rattle.std.specs.Prelude.{◌≤◌, length};
 ghost use Rattle.told.specs.Text.{longest};
 ghost use Rattle.ask.specs.Asked.{Asked};

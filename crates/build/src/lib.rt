@@ -1,4 +1,6 @@
 // Building a question's table: its states are numbered first, then every row of the table is written from the key rows.
+#![tactic(auto)]
+
 ghost use Rattle.std.specs.Prelude.{◌≡◌, false, [], ◌/◌, ◌≤◌, ◌<◌, min};
 ghost use Rattle.scope.specs.Sizes.{most_states};
 ghost use Rattle.scope.specs.Building.{built_question, built};

@@ -1,4 +1,6 @@
 // Formulas of SMT-LIB text: the lowest place at which one is outside the subset.
+#![tactic(auto)]
+
 ghost use Rattle.std.specs.Prelude.{◌≡◌, true, false, cond, ◌≤◌, ◌-◌, ◌<◌, length};
 ghost use Rattle.std.proofs.Math.Option.{none, some};
 ghost use Rattle.smtlib.specs.Lexicon.{most_nesting};

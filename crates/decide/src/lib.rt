@@ -1,4 +1,6 @@
 // Deciding a question: the first word that its machine accepts, or that there is none, or that the areas lent have no room to tell.
+#![tactic(auto)]
+
 ghost use Rattle.std.specs.Prelude.{◌≡◌, ◌/◌, ◌≤◌, ◌<◌, min, length};
 ghost use Rattle.scope.specs.Sizes.{most_states, most_atoms};
 ghost use Rattle.scope.specs.Deciding.{decided_question, decided};

@@ -1,4 +1,6 @@
 // A letter tried from a numbered row: the state that it leads to has a row already, or gets the next one, or there is none left.
+#![tactic(auto)]
+
 ghost use Rattle.std.specs.Prelude.{◌≡◌, true, false, ◌&&◌, ◌+◌, ◌*◌, ◌≤◌, ◌<◌, length};
 ghost use Rattle.formula.specs.Truths.{truth_at};
 ghost use Rattle.step.specs.Cells.{worth_cells};

@@ -1,4 +1,6 @@
 // An atom's numbers, its fields: taken from the bytes of a body, checked where they are held, and put into a body.
+#![tactic(auto)]
+
 mod held;
 mod taking;
 

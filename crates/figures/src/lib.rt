@@ -1,4 +1,6 @@
 // What an exported call tells of its answer, in figures: the refusal's number, and the cells behind it.
+#![tactic(auto)]
+
 ghost use Rattle.std.specs.Prelude.{◌≡◌, [], ◌∷◌};
 ghost use Rattle.scope.specs.Refusals.{record_told, read_told, write_told, truth_told, decide_told, build_told, spell_told};
 ghost use Rattle.figures.specs.Figures.{Leads, placed, decide_cells, build_cells};

@@ -1,4 +1,6 @@
 // The forms of SMT-LIB text, one after the other, each from a place on.
+#![tactic(auto)]
+
 ghost use Rattle.std.specs.Prelude.{◌≡◌, ◌+◌, ◌/◌, ◌^◌, ◌≤◌, ◌<◌, length};
 ghost use Rattle.forms.specs.Read.{ListEnds, FormReads, FormStands, RestBehind};
 ghost use Rattle.forms.specs.Closing.{left_after};

@@ -1,4 +1,6 @@
 // The formula's truths for all the worths at once, settled from its parts: each connective stands before its parts, and the depth left falls at each call.
+#![tactic(auto)]
+
 ghost use Rattle.std.specs.Prelude.{◌≡◌, Bool, false, not, ◌&&◌, ◌||◌, List, [], ◌∷◌, map, ◌≤◌, ◌<◌, length, get_or};
 ghost use Rattle.scope.specs.Question.{node_of};
 ghost use Rattle.scope.specs.Sizes.{most_atoms, most_nodes};

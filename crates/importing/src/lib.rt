@@ -1,4 +1,6 @@
 // Importing a question from SMT-LIB text, as document 02, E2 has it.
+#![tactic(auto)]
+
 pub mod answer;
 mod commands;
 

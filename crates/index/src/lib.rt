@@ -1,6 +1,8 @@
 // The index over numbered rows of key cells: it finds the row that has a key's cells without looking at every row, so exploring is linear.
 // The rows of a bucket are chained newest first. The chains are one lent slice, `links`, of two parts: with n, half its length, buckets,
 // links[b] is bucket b's newest row, and links[n + r] the newest row before r of r's bucket.
+#![tactic(auto)]
+
 ghost use Rattle.std.specs.Prelude.{◌≡◌, not, ◌+◌, ◌*◌, ◌≤◌, ◌<◌, length, take};
 ghost use Rattle.std.proofs.Math.Seq.{paste};
 ghost use Rattle.index.specs.Rows.{row_at};

@@ -1,4 +1,6 @@
 // Judging: whether a tuple of values satisfies a question, in whole-number arithmetic.
+#![tactic(auto)]
+
 ghost use Rattle.std.specs.Prelude.{◌≡◌, ℕ, ◌*◌, ◌≤◌, ◌<◌, length, get_or, pos, nat_abs, ◌*ℤ◌, leb};
 ghost use Rattle.scope.specs.Whole.{all};
 ghost use Rattle.scope.specs.Sizes.{most_coefficient, most_value, most_atoms, most_nodes, most_variables};

@@ -1,4 +1,6 @@
 // The nodes of a question laid from SMT-LIB text that has no fault: in the question's order, the first beyond a limit refused.
+#![tactic(auto)]
+
 mod atoms;
 mod lists;
 mod nodes;

@@ -1,4 +1,6 @@
 // SMT-LIB text byte by byte: what each byte does, whether the text is well formed, and whether a stretch of it is a word.
+#![tactic(auto)]
+
 mod moves;
 mod spelling;
 

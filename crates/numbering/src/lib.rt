@@ -1,4 +1,6 @@
 // The numbering loop that deciding and building share: row by row, each letter in order, a state that has no row yet gets the next one.
+#![tactic(auto)]
+
 ghost use Rattle.std.specs.Prelude.{◌≡◌, false, ◌≤◌, ◌<◌};
 ghost use Rattle.plan.specs.Machine.{machine, Task};
 ghost use Rattle.plan.specs.Moves.{going_at};

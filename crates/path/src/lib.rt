@@ -1,4 +1,6 @@
 // The answer by how exploring ended, with the word of the state found: it is read off the path area, from the state back to the start.
+#![tactic(auto)]
+
 ghost use Rattle.std.specs.Prelude.{◌≡◌, ◌≤◌, length};
 ghost use Rattle.scope.specs.Whole.{at_front};
 ghost use Rattle.path.specs.Path.{path_word, PathLinked};

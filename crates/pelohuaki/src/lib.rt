@@ -1,4 +1,6 @@
 // The public calls and their types, under one roof. What their contracts promise together is in crate `promises`.
+#![tactic(auto)]
+
 pub use build::build;
 pub use decide::decide;
 pub use importing::answer::Import;

@@ -1,5 +1,7 @@
 // The calls as C and Rust link them: a number passes as itself, a slice as a pointer and a length. A call answers document 01's
 // refusal number, 0 where nothing is refused, and puts the rest of its answer into `told`, as many cells of it as are lent.
+#![tactic(auto)]
+
 ghost use Rattle.scope.specs.Refusals.{record_told, truth_told, spell_told};
 ghost use Rattle.scope.specs.Wire.{record_at, read_held};
 ghost use Rattle.scope.specs.Writing.{wrote};

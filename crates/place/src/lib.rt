@@ -1,5 +1,7 @@
 // A place in a question, opened on the caller's own bytes and moved record by record, as document 01 has it.
 // The struct holds the slice, so each function over it is thin, calls functions on plain slices, and is proved by hand, statement by statement.
+#![tactic(auto)]
+
 ghost use Rattle.std.specs.Prelude.{◌≡◌};
 ghost use Rattle.scope.specs.Wire.{record_at};
 ghost use Rattle.records.specs.Bodies.{BodyOf};

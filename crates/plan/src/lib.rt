@@ -1,4 +1,6 @@
 // What is fixed while the rows of a question are numbered, and where the numbering stands.
+#![tactic(auto)]
+
 ghost use Rattle.std.specs.Prelude.{◌≡◌, true, false, ◌+◌, ◌*◌, ◌^◌, ◌≤◌, ◌<◌, min, length, take};
 ghost use Rattle.formula.specs.Truths.{truth_at};
 ghost use Rattle.step.specs.Cells.{worth_cells};

@@ -1,4 +1,6 @@
 // Reading a question from its bytes: whole, or from a place on, as document 01 has it.
+#![tactic(auto)]
+
 ghost use Rattle.std.specs.Prelude.{◌≡◌, ◌≤◌, length};
 ghost use Rattle.scope.specs.Sizes.{most_variables};
 ghost use Rattle.scope.specs.Wire.{read_from, read_held};

@@ -1,4 +1,6 @@
 // Records as bytes: a bare step from one to the next, and a record's body, as document 01 has them; and what reading and writing a question share.
+#![tactic(auto)]
+
 ghost use Rattle.std.specs.Prelude.{◌≡◌};
 ghost use Rattle.scope.specs.Wire.{record_at};
 ghost use Rattle.records.specs.Bodies.{BodyOf};

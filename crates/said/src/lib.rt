@@ -1,4 +1,6 @@
 // What the program smt prints of an answer. Writers put text at a place of a buffer and answer the place after it.
+#![tactic(auto)]
+
 ghost use Rattle.std.specs.Prelude.{◌≡◌, ◌+◌, ◌-◌, ◌*◌, ◌≤◌, min, length, take, drop};
 ghost use Rattle.scope.specs.Words.{spelled};
 ghost use Rattle.scope.specs.Refusals.{refusal};

@@ -1,1 +1,3 @@
 // No code: outside vectors against the definitions of scope.
+
+#![tactic(auto)]

@@ -1,5 +1,7 @@
 // The question, its limits, the refusal and the answers of every public call, as document 01 has them.
 // What the calls must do is defined in specs/; the calls themselves are in the crates above.
+#![tactic(auto)]
+
 ghost use Rattle.std.specs.Prelude.{◌≡◌, ◌^◌, ◌≤◌};
 ghost use Rattle.scope.specs.Sizes.{limits, most_letters, most_variables};
 ghost use Rattle.scope.specs.Question.{node_of, is_atom, empty_question};

@@ -1,4 +1,6 @@
 // The commands of SMT-LIB text in their order: what is declared and asserted, and the lowest place that is outside the subset or beyond its limits.
+#![tactic(auto)]
+
 mod changes;
 mod commands;
 mod listed;

@@ -1,4 +1,6 @@
 // The program smt: reads SMT-LIB text from standard input, decides its question and prints what other solvers print. A text of more than 65,536 bytes is unknown.
+#![tactic(auto)]
+
 ghost use Rattle.std.specs.Prelude.{◌≤◌, length, replicate};
 ghost use Rattle.told.specs.Writers.{Put};
 ghost use Rattle.said.specs.Said.{said_of, say_room, BoundsStand};

@@ -1,4 +1,6 @@
 // What a letter does to a key row: the letters' sums, worked once for a question, and the row's target and worths.
+#![tactic(auto)]
+
 ghost use Rattle.std.specs.Prelude.{◌≡◌, not, ◌*◌, ◌≤◌, ◌<◌, length, nat_abs, ◌-ℤ◌};
 ghost use Rattle.scope.specs.Whole.{eq_z, even};
 ghost use Rattle.scope.specs.States.{dead_cell};

@@ -1,4 +1,6 @@
 // A question's table, written from its key rows: row by row, in each the mark and then the next state for each letter.
+#![tactic(auto)]
+
 ghost use Rattle.std.specs.Prelude.{◌≡◌, cond, ◌+◌, ◌*◌, ◌≤◌, ◌<◌, length};
 ghost use Rattle.scope.specs.Sizes.{most_atoms};
 ghost use Rattle.step.specs.Cells.{step_cells};

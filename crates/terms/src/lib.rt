@@ -1,4 +1,6 @@
 // Terms of SMT-LIB text as collected numbers: the constant, then a coefficient for each of six names.
+#![tactic(auto)]
+
 mod gather;
 mod heads;
 mod sums;

@@ -1,4 +1,6 @@
 // The text of an answer, as the asking program prints it. Writers put text at a place of a buffer and answer the place after it.
+#![tactic(auto)]
+
 ghost use Rattle.std.specs.Prelude.{◌≡◌, [], ◌∷◌, ◌+◌, ◌-◌, ◌*◌, ◌≤◌, ◌<◌, length, take};
 ghost use Rattle.scope.specs.Words.{value, spelled};
 ghost use Rattle.told.specs.Decimal.{digit_byte, decimal};

@@ -1,5 +1,7 @@
 // Runs the outside vectors, a call and its outcome a line, through the compiled calls, and counts by file and kind those that come out as the line says.
 // A line that cannot be taken apart counts as wrong. What a program prints is tested and not proved; that it is safe and ends is proved.
+#![tactic(auto)]
+
 mod areas;
 mod as_bytes;
 mod asking;

@@ -1,4 +1,6 @@
 // Leaves on signed numbers: the floor half of a difference, and a number's four bytes on the wire.
+#![tactic(auto)]
+
 ghost use Rattle.std.specs.Prelude.{◌≡◌, ◌+◌, ◌*◌, ◌≤◌, ◌<◌, length, nat_abs, ◌-ℤ◌};
 ghost use Rattle.std.proofs.lemmas.List.Edits.{sets};
 ghost use Rattle.std.specs.Int.{w32};

@@ -1,4 +1,6 @@
 // Spelling out a word's values, and running a table on a word. A word is low digits first, and a letter has variable 1 as its lowest bit.
+#![tactic(auto)]
+
 ghost use Rattle.std.specs.Prelude.{◌≡◌, cond, ◌&&◌, ℕ, ◌+◌, ◌%◌, ◌≤◌, ◌<◌, length, leb, ltb, eqb};
 ghost use Rattle.scope.specs.Whole.{all, all_from};
 ghost use Rattle.scope.specs.Words.{value, spelt};

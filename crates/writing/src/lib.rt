@@ -1,4 +1,6 @@
 // Writing a held question's bytes, as document 01 has it.
+#![tactic(auto)]
+
 ghost use Rattle.records.specs.Parts.{held_question};
 ghost use Rattle.writing.specs.Writes.{Writes};
 
