@@ -5,7 +5,8 @@
 use Rattle.std.proofs.Math.Path.{◌≡◌, refl, ap}
 use Rattle.std.proofs.Common.{sym, ◌∙◌, inl, inr, arith, leb→le, le→leb}
 use Rattle.std.specs.Prelude.{◌↔◌, ◌⊎◌, ◌≢◌, Bool, cond, List, [], ◌∷◌, ℕ, ◌+◌, ◌-◌, ◌≤◌, ◌<◌, length, ℤ}
-use Rattle.std.proofs.Math.Logic.{⊎_elim, Iff·trans}
+use Rattle.std.proofs.Math.Logic.{⊎_elim}
+use mathlib.Core.Logic.Iff
 use Rattle.std.proofs.Math.Bool.{true, false}
 use Rattle.std.proofs.Math.Option.{Option, none, some}
 use Rattle.std.proofs.Math.Dec.{leb, nleb→lt, not_T}
@@ -117,7 +118,7 @@ module _ (bytes : List ℕ) where
 module _ (bytes : List ℕ) (at : ℕ) where
   pub record_refused : {r : RecordAnswer} → RecordOutcome bytes at r → (ρ : Refusal) → (r ≡ RecordAnswer.Refused ρ) ↔ FirstFailing (record_checks bytes at) ρ
   unfolding record_at
-  record_refused out ρ = rw out (Iff·trans (record_or_lem (first_refusal (record_checks bytes at))) (some_iff_failing (record_checks bytes at) ρ))
+  record_refused out ρ = rw out (Iff.trans (record_or_lem (first_refusal (record_checks bytes at))) (some_iff_failing (record_checks bytes at) ρ))
     where
       record_or_lem : (o : Option Refusal) → (record_or o bytes at ≡ RecordAnswer.Refused ρ) ↔ (o ≡ some ρ)
       record_or_lem none = (λ e. let z : ◌≡◌ {A = ℕ} 0 1 = cc in absurd (omega arith), λ e. let z : ◌≡◌ {A = ℕ} 0 1 = cc in absurd (omega arith))
@@ -209,7 +210,7 @@ module _ (bytes : List ℕ) (keys : List ℤ) (path word : List ℕ) where
       back e = ap (λ (d : Decided). d.answer) (deciding.decide_refused_unchanged bytes keys path word ρ e)
 
   pub decide_refused : {o : Decided} → DecideOutcome bytes keys path word o → (ρ : Refusal) → (o.answer ≡ DecideAnswer.Refused ρ) ↔ Breaks bytes ρ
-  decide_refused out ρ = rw out.answer (Iff·trans (decided_refused ρ) (refused_iff bytes ρ))
+  decide_refused out ρ = rw out.answer (Iff.trans (decided_refused ρ) (refused_iff bytes ρ))
 
   pub question_not_refused : IsQuestion bytes → {o : Decided} → DecideOutcome bytes keys path word o → (ρ : Refusal) → o.answer ≢ DecideAnswer.Refused ρ
   question_not_refused q out ρ e = not_both bytes q ρ ((decided_refused ρ).0 (sym out.answer ∙ e))
@@ -229,7 +230,7 @@ module _ (bytes : List ℕ) (keys : List ℤ) (table : List ℕ) where
       back e = ap (λ (b : Built). b.answer) (building.build_refused_unchanged bytes keys table ρ e)
 
   pub build_refused : {o : Built} → BuildOutcome bytes keys table o → (ρ : Refusal) → (o.answer ≡ BuildAnswer.Refused ρ) ↔ Breaks bytes ρ
-  build_refused out ρ = rw out.answer (Iff·trans (built_refused ρ) (refused_iff bytes ρ))
+  build_refused out ρ = rw out.answer (Iff.trans (built_refused ρ) (refused_iff bytes ρ))
 
 -- judging: the question first; then 9 for other than n values or a value above the limit
 pub record OtherValues (bytes values : List ℕ) (ρ : Refusal) : Type 0 where
@@ -265,7 +266,7 @@ truth_or_lem (some σ) b ρ = (λ e. cc, λ e. cc)
 module _ (n : ℕ) (cells : List ℕ) (word : Word) where
   pub run_refused : {t : TruthAnswer} → RunOutcome n cells word t → (ρ : Refusal) → (t ≡ TruthAnswer.Refused ρ) ↔ FirstFailing (run_checks n cells word) ρ
   unfolding ran
-  run_refused out ρ = rw out (Iff·trans (truth_or_lem (first_refusal (run_checks n cells word)) (says_yes n cells word) ρ) (some_iff_failing (run_checks n cells word) ρ))
+  run_refused out ρ = rw out (Iff.trans (truth_or_lem (first_refusal (run_checks n cells word)) (says_yes n cells word) ρ) (some_iff_failing (run_checks n cells word) ρ))
 
   pub run_answered : {t : TruthAnswer} → RunOutcome n cells word t → Passed (run_checks n cells word) → t ≡ truth_of (says_yes n cells word)
   unfolding ran
@@ -280,7 +281,7 @@ module _ (n variable : ℕ) (word : Word) where
   pub spell_refused : {t : SpellAnswer} → SpellOutcome n variable word t → (ρ : Refusal) → (t ≡ SpellAnswer.Refused ρ) ↔ FirstFailing (spell_checks n variable word) ρ
   unfolding spelt
   spell_refused out ρ =
-      rw out (Iff·trans (value_or_lem (first_refusal (spell_checks n variable word)) (value word (variable - 1)) ρ) (some_iff_failing (spell_checks n variable word) ρ))
+      rw out (Iff.trans (value_or_lem (first_refusal (spell_checks n variable word)) (value word (variable - 1)) ρ) (some_iff_failing (spell_checks n variable word) ρ))
 
   pub spell_answered : {t : SpellAnswer} → SpellOutcome n variable word t → Passed (spell_checks n variable word) → t ≡ SpellAnswer.Value (value word (variable - 1))
   unfolding spelt

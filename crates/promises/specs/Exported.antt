@@ -2,7 +2,7 @@
 -- `told` says, back to the demands.
 use Rattle.std.specs.Prelude.{◌≡◌, refl, ◌↔◌, List, [], ◌∷◌, ℕ, ◌≤◌, length, get_or, ℤ}
 use Rattle.std.proofs.Common.{sym, ap, ◌∙◌, arith}
-use Rattle.std.proofs.Math.Logic.{Iff·trans}
+use mathlib.Core.Logic.Iff
 use Rattle.std.proofs.lemmas.List.Edits.{sets}
 use base.Fml.{Lft}
 use Rattle.std.specs.Borrow.{Bor}
@@ -295,7 +295,7 @@ pub never_exported : (bytes : List ℕ) (keys : List ℤ) (path word told : List
 never_exported bytes keys path word told octets room out =
     let a : DecideAnswer = (decided bytes keys path word).answer in
     let cell = ap (λ (l : List ℕ). get_or l 1 0) out.told ∙ decide_cell told room a in
-    Iff·trans (λ e. is_never a (sym cell ∙ e), λ (states, e). cell ∙ ap verdict_cell e) (never_guarded bytes keys path word octets)
+    Iff.trans (λ e. is_never a (sym cell ∙ e), λ (states, e). cell ∙ ap verdict_cell e) (never_guarded bytes keys path word octets)
 
 -- a 3 is built: the bytes are a question's, and the rows lent are at least its reachable states
 pub built_exported : (bytes : List ℕ) (keys : List ℤ) (table told : List ℕ) → Octets bytes → 2 ≤ length told → {o : BuiltCells} → BuildExported bytes keys table told o

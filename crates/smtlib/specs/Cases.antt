@@ -3,7 +3,7 @@
 use Rattle.std.specs.Prelude.{◌≡◌, refl, ◌↔◌, ◌⊎◌, cond, List, [], ◌∷◌, ℕ, suc, ◌+◌, length}
 use Rattle.std.proofs.Common.{sym, ◌∙◌, inl, inr, ⊎_elim, arith}
 use Rattle.std.proofs.Math.Path.{ap}
-use Rattle.std.proofs.Math.Logic.{Iff·trans, Iff·and, Iff·rfl}
+use mathlib.Core.Logic.Iff
 use Rattle.std.proofs.Math.Option.{Option, none, some}
 use Rattle.scope.specs.declared.Question.{Question}
 use Rattle.scope.specs.declared.Refusal.{Refusal}
@@ -191,7 +191,7 @@ module _ (text : List ℕ) where
   -- at the lowest place of all
   pub fault_lowest : (r : Refusal) → (((imported text).answer ≡ ReadAnswer.Refused r) × FaultNumber r.number)
       ↔ ((broken_at text ≡ none) × LowestFault (all_outside (length text) (script_in text)) (all_beyond (script_in text)) r)
-  fault_lowest r = Iff·trans (fault_exactly r) (Iff·and Iff·rfl (lowest_first (length text) (script_in text) r))
+  fault_lowest r = Iff.trans (fault_exactly r) (Iff.and Iff.rfl (lowest_first (length text) (script_in text) r))
 
   pub limit_exactly : (r : Refusal) → (((imported text).answer ≡ ReadAnswer.Refused r) × LimitNumber r.number)
       ↔ ((broken_at text ≡ none) × (fault_in text ≡ none) × (limit_in text ≡ some r))

@@ -1,7 +1,7 @@
 -- Deciding: what found, never and no room say of a question where r rows are lent, in whole-number arithmetic; and that the bound leaves room.
 use Rattle.std.specs.Prelude.{◌≡◌, refl, ◌↔◌, ◌≢◌, Bool, true, false, List, ℕ, ◌≤◌, ◌<◌, length}
 use Rattle.std.proofs.Common.{sym, ap, ◌∙◌, true≢false, le_refl, arith}
-use Rattle.std.proofs.Math.Logic.{Iff·rfl, Iff·symm, Iff·trans, Iff·and}
+use mathlib.Core.Logic.Iff
 use Rattle.std.proofs.Math.Bool.{not-eq-not}
 use Rattle.std.proofs.lemmas.List.{length-map}
 use Rattle.scope.specs.declared.Question.{Question}
@@ -152,7 +152,7 @@ module _ (q : Question) (r : ℕ) where
   row_short w h = word_length (machine_of q) (numbered_rooted (machine_of q) (machine_lawful q) r) w h
 
   pub held_never_exactly : (verdict_of q r ≡ never) ↔ (AtMost (machine_of q) r × NoneSatisfies q.n (satisfied q))
-  held_never_exactly = Iff·trans (never_means (machine_of q) (machine_lawful q) r) (Iff·and Iff·rfl (Iff·symm (none_satisfies q)))
+  held_never_exactly = Iff.trans (never_means (machine_of q) (machine_lawful q) r) (Iff.and Iff.rfl (Iff.symm (none_satisfies q)))
 
   pub held_no_room_exactly : (verdict_of q r ≡ no_room) ↔ ((¬ AtMost (machine_of q) r) × NoneOf (machine_of q) (rows_of q r) r)
   held_no_room_exactly = no_room_means (machine_of q) (machine_lawful q) r

@@ -125,11 +125,11 @@ pub data Within (n : ℕ) : List Atom → Type 0 where
   within-[] : Within n []
   within-∷ : {a : Atom} {ats : List Atom} → length a.coefficients ≤ n → Within n ats → Within n (a ∷ ats)
 
-pub step_says_of : {ats : List Atom} (es : State) (l : ℕ) (xs : List ℕ) → Within (length xs) ats → says_of ats es (put l xs) ≡ says_of ats (step_of ats es l) xs
+pub step_says_of : (xs : List ℕ) {ats : List Atom} (es : State) (l : ℕ) → Within (length xs) ats → says_of ats es (put l xs) ≡ says_of ats (step_of ats es l) xs
 unfolding says_of step_of
-step_says_of es l xs within-[] = refl
-step_says_of [] l xs (within-∷ h w) = refl
-step_says_of (e ∷ es) l xs (within-∷ {a} h w) = λ i. step_says a e l xs h i ∷ step_says_of es l xs w i
+step_says_of xs es l within-[] = refl
+step_says_of xs [] l (within-∷ h w) = refl
+step_says_of xs (e ∷ es) l (within-∷ {a} h w) = λ i. step_says a e l xs h i ∷ step_says_of xs es l w i
 
 zeros_say_of : (ats : List Atom) (es : State) (n : ℕ) → says_of ats es (replicate n 0) ≡ worths_of ats es
 unfolding says_of worths_of
@@ -165,7 +165,7 @@ module _ (q : Question) where
   after_says es (l ∷ w) =
       let xs : List ℕ = spelled q.n w in
       let h : Within (length xs) (atoms_of q) = rw (length_spelled q.n w) (atoms_within q) in
-      rw (spelled_cons q.n l w) (after_says (step_of (atoms_of q) es l) w ∙ sym (step_says_of es l xs h))
+      rw (spelled_cons q.n l w) (after_says (step_of (atoms_of q) es l) w ∙ sym (step_says_of xs es l h))
 
   pub word_means : (w : Word) → (machine_of q).accepts (after (machine_of q) (machine_of q).start w) ≡ satisfied q (spelled q.n w)
   unfolding machine_of accepting satisfied
