@@ -129,10 +129,32 @@ def table():
 
 
 TOKEN = re.compile(ID)
+# Fields that are spelled as a lemma is: a field's name is its record's own.
+FIELDS = {"start-row", "some-letters", "spelt-from", "goes_on", "no-atom", "held_in", "refused-by"}
+# The aliases of modules: behind them stands a lemma, and behind any other dot a field, a step of the code or a folder.
+ALIASES = ("bodies",)
+
+
+def plain(name):
+    return re.sub(r"_lem\d*$", "", name)
 
 
 def turned(text, new):
-    return TOKEN.sub(lambda m: new.get(m.group(0), m.group(0)), text)
+    def one(m):
+        name = m.group(0)
+        to = new.get(name, name)
+        before, behind = text[: m.start()], text[m.end() :]
+        if before.endswith(".") and not re.search(rf"(?<![\w.])(?:{'|'.join(ALIASES)})\.$", before):
+            return plain(to) if to != name else to
+        if name in FIELDS:
+            given = re.match(r" = ", behind) and (not before.strip() or re.search(r"[{;]\s*$", before))
+            if given and (before.startswith(" ") or before.strip()):
+                return plain(to)
+            if re.match(r"\s+pub $", before) and re.match(r" :| \(", behind):
+                return plain(to)
+        return to
+
+    return TOKEN.sub(one, text)
 
 
 def in_comment(text, new):
@@ -173,8 +195,10 @@ def main():
             if any(path.startswith(it) for it in places):
                 here[name] = name + "_lem"
         changed += turn_file(path, here, "--")
+    words = {a: plain(b) for a, b in new.items()}
+    words = {a: b for a, b in words.items() if a != b}
     for path in sorted(glob.glob("crates/*/src/**/*.rt", recursive=True)):
-        changed += turn_file(path, new, "//")
+        changed += turn_file(path, words, "//")
     print(f"respell: {len(new)} names, {changed} files")
 
 

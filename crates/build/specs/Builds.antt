@@ -115,7 +115,7 @@ module _ {plan : Plan} {sums : List ℤ} (task : Task plan sums) {keys₀ : List
 
   start_row_lem : KeyRow plan.width M.start
   start_row_lem =
-      (start_stands M ready (sym run.start_is) (rw run.letters_are task.some_letters_lem) ready.some_rows (le_refl plan.rows)).rows_there.start_row_lem
+      (start_stands M ready (sym run.start_is) (rw run.letters_are task.some_letters) ready.some_rows (le_refl plan.rows)).rows_there.start_row
 
   good : AllGood (KeyRow plan.width) (numbered M states)
   good = rw (partial_zero M states) at (run.rows_good task start_row_lem states 0 (omega arith))
@@ -145,7 +145,7 @@ module _ {plan : Plan} {sums : List ℤ} (task : Task plan sums) {keys₀ : List
   same_start =
       let rooted = numbered_rooted M run.lawful states in
       let some : 0 < states = omega (arith, rooted.not_empty, there.size) in
-      rw zero-mul at (state_is there 0 some) ∙ ap (λ (r : Row (List ℤ)). r.state) rooted.start_row_lem ∙ run.start_is
+      rw zero-mul at (state_is there 0 some) ∙ ap (λ (r : Row (List ℤ)). r.state) rooted.start_row ∙ run.start_is
 
   pub table_fits_lem : (width size : ℕ) → plan.rows * width ≤ size → states * width ≤ size
   table_fits_lem width size h = omega (arith, mul-le-mul_right width few_states)

@@ -62,7 +62,7 @@ module _ {plan : Plan} {sums keys : List ℤ} {path table : List ℕ} (f : Filli
 
   pub from_start : Stands (machine plan sums keys) plan keys path (going_at 1 0 0)
   from_start =
-      start_stands M f.ready (sym run.start_is) (rw run.letters_are f.task.some_letters_lem) f.ready.some_rows (le_refl plan.rows)
+      start_stands M f.ready (sym run.start_is) (rw run.letters_are f.task.some_letters) f.ready.some_rows (le_refl plan.rows)
 
   lent_after : {keys₁ : List ℤ} {path₁ : List ℕ} → length keys₁ ≡ length keys → Lent plan keys₁ path₁
   lent_after {path₁ = path₁} same = record {

@@ -88,7 +88,7 @@ module _ {text : List ℕ} {at nesting : ℕ} (i : Inside text at nesting) {f : 
   form_there e = omega (arith, i.left, (form_read.end e).none_open)
 
   pub goes_further : at < f.next
-  goes_further = omega (arith, told.0.not_before, told.0.goes_on_lem form_there)
+  goes_further = omega (arith, told.0.not_before, told.0.goes_on form_there)
 
   pub part_ended : {names : List (List ℕ)} {fault : Spot} → f.kind < OPEN → ClausePartRead text at (most_nesting - nesting) names (part_of true fault f.next)
   part_ended l = ends_here (form_read.close (omega (arith, l, form_there)))

@@ -122,7 +122,7 @@ module _ {q : Question} {atoms : Kinds} {rows : ℕ} {keys₀ : List ℤ} {path�
     some = go w at.accepts
       where
         go : (t : ℕ) → (machine_of q).accepts (row (machine_of q) (rows_of q rows) t).state ≡ true → 0 < t
-        go zero y = absurd (true≢false (sym (rw rooted.start_row_lem at y) ∙ e.refused))
+        go zero y = absurd (true≢false (sym (rw rooted.start_row at y) ∙ e.refused))
         go (suc t) y = omega arith
 
     abbrev its : Row State

@@ -70,7 +70,7 @@ module _ (M : Machine (List ℤ)) (ok : Lawful M) {plan : Plan} {keys : List ℤ
           ∙ ap (take plan.width) (stored_front keys key plan.width s.count room.keys_room)
           ∙ take-take plan.width (s.count * plan.width) keys h
           ∙ t.rows_there.start_is);
-      start_row_lem = t.rows_there.start_row_lem;
+      start_row = t.rows_there.start_row;
       held = held_grown;
       none = λ d. grown_none M s.row s.letter (t.rows_there.none d) (refused d);
     })

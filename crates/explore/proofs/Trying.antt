@@ -47,7 +47,7 @@ module _ {plan : Plan} {sums start : List ℤ} {M : Machine (List ℤ)} (runs : 
   ok = runs.lawful
 
   good : AllGood (KeyRow plan.width) (partial M s.row s.letter)
-  good = let h : s.letter ≤ plan.letters = omega (arith, letter_below) in runs.rows_good task t.rows_there.start_row_lem s.row s.letter h
+  good = let h : s.letter ≤ plan.letters = omega (arith, letter_below) in runs.rows_good task t.rows_there.start_row s.row s.letter h
 
   row_is : row_at keys plan.width s.row ≡ (row M (partial M s.row s.letter) s.row).state
   row_is = held_row_lem M plan.width t.rows_there.held good s.row below
@@ -121,7 +121,7 @@ module _ {plan : Plan} {sums start : List ℤ} {M : Machine (List ℤ)} (runs : 
           ∙ sym (partial_zero M (suc s.row))
           ∙ rw add-one in
           rw (← e) there;
-      letter_ok = rw runs.letters_are task.some_letters_lem;
+      letter_ok = rw runs.letters_are task.some_letters;
       begun = λ ne. absurd (ne refl);
       row_ok = omega arith;
     }
@@ -134,7 +134,7 @@ module _ {plan : Plan} {sums start : List ℤ} {M : Machine (List ℤ)} (runs : 
       went = record {
         more = rw mv.count_is more;
         kept = rw mv.count_is kept;
-        there = rw mv.goes_on_lem (rw (← mv.count_is) at (goes_on_lem count' more {b = false} {c = to.accepted} mv.place there));
+        there = rw mv.goes_on (rw (← mv.count_is) at (goes_on_lem count' more {b = false} {c = to.accepted} mv.place there));
       };
       linked = λ _. rw mv.count_is linked;
       on = λ _. further (omega (arith, letter_below, task.few_letters)) mv.place;

@@ -38,7 +38,7 @@ none_linked plan keys size narrow some few room = record {
 pub fewer_task : (plan : Plan) (few : ℕ) {sums : List ℤ} → Task plan sums → Task (with_rows plan few) sums
 fewer_task plan few t = record {
   narrow = t.narrow;
-  some_letters_lem = t.some_letters_lem;
+  some_letters = t.some_letters;
   few_letters = t.few_letters;
   sums_fit = t.sums_fit;
   blank = t.blank;
@@ -85,7 +85,7 @@ module _ (M : Machine (List ℤ)) {plan : Plan} {keys : List ℤ} {path : List �
       lent = fewer_lent ready.lent less;
       count_ok = h;
       start_is = start_is;
-      start_row_lem = rw (← start_is) first_row;
+      start_row = rw (← start_is) first_row;
       held = first_held;
       none = λ d. rw (start_rows M) at (start_none M (ready.refused d));
     });
@@ -114,7 +114,7 @@ more_stands less lent s =
         lent = lent;
         count_ok = omega (arith, t.count_ok);
         start_is = t.start_is;
-        start_row_lem = t.start_row_lem;
+        start_row = t.start_row;
         held = t.held;
         none = t.none;
       };

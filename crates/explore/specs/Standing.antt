@@ -32,7 +32,7 @@ pub record There (M : Machine (List ℤ)) (plan : Plan) (keys : List ℤ) (path 
   pub lent : Lent plan keys path
   pub count_ok : count ≤ plan.rows
   pub start_is : take plan.width keys ≡ M.start
-  pub start_row_lem : KeyRow plan.width M.start
+  pub start_row : KeyRow plan.width M.start
   pub held : Held plan.width plan.noting l count keys path
   pub none : plan.testing ≡ true → NoneOf M l (length l)
 

@@ -67,11 +67,11 @@ module _ (text : List ℕ) (at place : ℕ) (k : BlankEnd text at place) where
       record {
         kind_known = omega arith;
         not_before = k.not_before;
-        goes_on_lem = on;
+        goes_on = on;
         inside = inside;
         value_small = omega arith;
         spelt_inside = (omega arith, k.inside);
-        spelt_from_lem = λ h. absurd (omega arith);
+        spelt_from = λ h. absurd (omega arith);
       }
 
   pub end_there : length text ≤ place → FormStands text at (formed END place place place 0 place) × FormReads text at (formed END place place place 0 place)
@@ -142,11 +142,11 @@ module _ (text : List ℕ) (at place : ℕ) (k : BlankEnd text at place) where
             record {
               kind_known = w.kind_known;
               not_before = omega (arith, k.not_before, w.place_is);
-              goes_on_lem = λ n. omega (arith, t.not_before, w.place_is, w.next_is);
+              goes_on = λ n. omega (arith, t.not_before, w.place_is, w.next_is);
               inside = omega (arith, t.inside, w.next_is);
               value_small = w.value_small;
               spelt_inside = w.spelt_inside;
-              spelt_from_lem = λ h. rw w.place_is (w.spelt_from_lem h);
+              spelt_from = λ h. rw w.place_is (w.spelt_from h);
             },
             λ depth u.
                 let here = word_here text at place depth k.past u h (state_after move) next o (omega (arith, t.not_before)) ends in

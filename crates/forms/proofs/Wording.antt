@@ -71,7 +71,7 @@ module _ (text : List ℕ) (place next : ℕ) where
         kind_known = omega arith;
         value_small = omega arith;
         spelt_inside = (omega arith, omega arith);
-        spelt_from_lem = λ h. absurd (omega arith);
+        spelt_from = λ h. absurd (omega arith);
         says = says_other _ _ _ refl e;
       }
 
@@ -91,7 +91,7 @@ module _ (text : List ℕ) (place next : ℕ) where
           kind_known = omega arith;
           value_small = omega (arith, clipped_small (numeral_from 0 (stretch text place next)));
           spelt_inside = (omega arith, omega (arith, p.some_bytes, p.inside));
-          spelt_from_lem = λ h. absurd (omega arith);
+          spelt_from = λ h. absurd (omega arith);
           says = says_numeral _ _ _ (numeral_from 0 (stretch text place next)) refl (rw e at all_digits) (sym c);
         }
 
@@ -108,7 +108,7 @@ module _ (text : List ℕ) (place next : ℕ) where
           kind_known = omega arith;
           value_small = omega arith;
           spelt_inside = (omega (arith, p.some_bytes), p.inside);
-          spelt_from_lem = λ h. absurd (omega arith);
+          spelt_from = λ h. absurd (omega arith);
           says = says_reserved _ _ _ refl (rw e at by_reserved);
         }
 
@@ -121,7 +121,7 @@ module _ (text : List ℕ) (place next : ℕ) where
           kind_known = omega arith;
           value_small = omega arith;
           spelt_inside = (omega (arith, p.some_bytes), p.inside);
-          spelt_from_lem = λ h. rw p.letter_there.no_bar refl;
+          spelt_from = λ h. rw p.letter_there.no_bar refl;
           says = says_symbol _ _ _ refl (rw e at by_reserved);
         }
 
@@ -140,7 +140,7 @@ module _ (text : List ℕ) (place next : ℕ) where
           kind_known = omega arith;
           value_small = omega arith;
           spelt_inside = (t.0, omega arith);
-          spelt_from_lem = λ h. rw (e, add-one) refl;
+          spelt_from = λ h. rw (e, add-one) refl;
           says = says_symbol _ _ _ refl (rw add-one (bare ∙ ap symbol between));
         }
 

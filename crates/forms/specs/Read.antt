@@ -106,8 +106,8 @@ RestBehind text f next = (at depth : ℕ) → Unbroken text at depth → FormRea
 pub record FormStands (text : List ℕ) (at : ℕ) (f : Form) : Type 0 where
   pub kind_known : f.kind ≤ OTHER
   pub not_before : at ≤ f.place
-  pub goes_on_lem : ((f.kind ≡ END) → ⊥) → f.place < f.next
+  pub goes_on : ((f.kind ≡ END) → ⊥) → f.place < f.next
   pub inside : f.next ≤ length text
   pub value_small : f.value ≤ suc most_numeral
   pub spelt_inside : (f.from ≤ f.to) × (f.to ≤ length text)
-  pub spelt_from_lem : f.kind ≡ SYMBOL → f.from ≡ spelt_from text f.place
+  pub spelt_from : f.kind ≡ SYMBOL → f.from ≡ spelt_from text f.place

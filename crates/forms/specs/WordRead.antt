@@ -52,5 +52,5 @@ pub record WordRead (text : List ℕ) (place next : ℕ) (f : Form) : Type 0 whe
   pub kind_known : f.kind ≤ OTHER
   pub value_small : f.value ≤ suc most_numeral
   pub spelt_inside : (f.from ≤ f.to) × (f.to ≤ length text)
-  pub spelt_from_lem : f.kind ≡ SYMBOL → f.from ≡ spelt_from text place
+  pub spelt_from : f.kind ≡ SYMBOL → f.from ≡ spelt_from text place
   pub says : WordSays text f (bare_of (stretch text place next))

@@ -42,7 +42,7 @@ module _ (text : List ℕ) (s : Script) (k : Kept) (h : Keeps text s k) where
       let from : ℕ = get_or k.bounds (2 * i) 0 in
       let to : ℕ = get_or k.bounds (2 * i + 1) 0 in
       let long : length (stretch text from to) ≡ to - from = length-take-le (to - from) (drop from text) (omega (arith, length-drop from text, span.0, span.1)) in
-      omega (arith, long, span.0, h.spelt_from_lem i l)
+      omega (arith, long, span.0, h.spelt_from i l)
 
   kept_from : (i n : ℕ) → i + n ≤ k.count → bounds_of text (declarations_from (λ j. declaration_at text k j) i n) ≡ take (2 * n) (drop (2 * i) k.bounds)
   unfolding bounds_of declarations_from
@@ -56,7 +56,7 @@ module _ (text : List ℕ) (s : Script) (k : Kept) (h : Keeps text s k) where
       drop-cons k.bounds (2 * i) 0 (omega (arith, room, l))
       ∙ ap (λ (j : ℕ). get_or k.bounds (2 * i) 0 ∷ drop j k.bounds) odd
       ∙ ap (λ (r : List ℕ). get_or k.bounds (2 * i) 0 ∷ r) (drop-cons k.bounds (2 * i + 1) 0 (omega (arith, room, l)) ∙ ap (λ (j : ℕ). get_or k.bounds (2 * i + 1) 0 ∷ drop j k.bounds) next) in
-      let first : spelt_from text (get_or k.tokens i 0) ≡ get_or k.bounds (2 * i) 0 = sym (h.spelt_from_lem i (omega (arith, l))) in
+      let first : spelt_from text (get_or k.tokens i 0) ≡ get_or k.bounds (2 * i) 0 = sym (h.spelt_from i (omega (arith, l))) in
       let second = to_place i (omega (arith, l)) in
       let later = kept_from (suc i) n (omega (arith, l)) in
       (λ j. first j ∷ second j ∷ later j) ∙ sym (λ j. take (two j) (cells j))

@@ -50,7 +50,7 @@ names_first text bounds i (suc n) (w ∷ names) rest e = λ j. ap first_name e j
 -- ---- the depth does not count
 
 depth_aside : (xs : List PlacedNode) (l : Laying) (depth : ℕ) → Lays xs (at_depth l depth) → Lays xs l
-depth_aside xs l depth h = record { refusal_is = h.refusal_is; held_in_lem = λ e. let k = h.held_in_lem e in record { question_is = k.question_is; nodes_are = k.nodes_are; atoms_are = k.atoms_are } }
+depth_aside xs l depth h = record { refusal_is = h.refusal_is; held_in = λ e. let k = h.held_in e in record { question_is = k.question_is; nodes_are = k.nodes_are; atoms_are = k.atoms_are } }
 
 -- ---- what is still to be laid, from a clause on
 
@@ -153,7 +153,7 @@ module _ (text bounds : List ℕ) (p : Progress) (t : FaultlessText text bounds 
         go false k = open_or_word (eqb f.kind OPEN) refl (leb-false _ _ k)
 
     pub form_further : FormStands text p.next f → p.next < f.next
-    form_further stands = let k = list_there in let g = stands.goes_on_lem (λ e. omega arith) in omega (arith, stands.not_before)
+    form_further stands = let k = list_there in let g = stands.goes_on (λ e. omega arith) in omega (arith, stands.not_before)
 
     module _ (h : CommandHead) (command : CommandReads text f.next h) (next : ℕ) (ends : ListEnds text f.next next) where
       inner : Forms

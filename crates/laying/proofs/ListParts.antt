@@ -68,7 +68,7 @@ module _ (text : List ℕ) (at : ℕ) (f : Form) (head : ListHead) (stands : For
       (λ e. absurd (no_form_faultless names (forms_at text at) (read.close e).forms faultless))
       (λ e.
       let o = read.open_list e in
-      list_headed_here depth names faultless o (stands.goes_on_lem (λ z. omega (arith, z, e))) (heads (suc depth) o.unbroken))
+      list_headed_here depth names faultless o (stands.goes_on (λ z. omega (arith, z, e))) (heads (suc depth) o.unbroken))
       (λ l. absurd (word_faulty names (forms_at text at) _ _ _ (read.word_here l).forms faultless))
 
 -- ---- what is behind a part
@@ -79,7 +79,7 @@ module _ (text : List ℕ) (at after : ℕ) (part form : Form) (stands : FormSta
 
   module _ (depth : ℕ) (inside : 0 < depth) (rest : Rest text at depth after) (opened : OPEN ≤ part.kind) where
     goes_further : (form.kind ≡ END → ⊥) → at < form.next
-    goes_further n = omega (arith, stands.not_before, stands.goes_on_lem (λ z. omega (arith, z, opened)), beyond, later_stands.not_before, later_stands.goes_on_lem n)
+    goes_further n = omega (arith, stands.not_before, stands.goes_on (λ z. omega (arith, z, opened)), beyond, later_stands.not_before, later_stands.goes_on n)
 
     ended_by : FormRead text after depth form → PartEnded text at depth ending
     ended_by read =

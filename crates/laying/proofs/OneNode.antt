@@ -43,21 +43,21 @@ record ConnectiveCode (code : ℕ) : Type 0 where
   same_code : code_of (node_of code) ≡ code
 
 connective_code : (code : ℕ) → 3 ≤ code → code ≤ 5 → ConnectiveCode code
-connective_code code h k = by_cases (ℕ_discrete code 3) (λ e. rw e (record { no_atom_lem = refl; same_code = refl }))
-    (λ f. by_cases (ℕ_discrete code 4) (λ e. rw e (record { no_atom_lem = refl; same_code = refl }))
-    (λ g. let e : code ≡ 5 = omega arith in rw e (record { no_atom_lem = refl; same_code = refl })))
+connective_code code h k = by_cases (ℕ_discrete code 3) (λ e. rw e (record { no_atom = refl; same_code = refl }))
+    (λ f. by_cases (ℕ_discrete code 4) (λ e. rw e (record { no_atom = refl; same_code = refl }))
+    (λ g. let e : code ≡ 5 = omega arith in rw e (record { no_atom = refl; same_code = refl })))
 
 module _ (a : Laying) (ready : Layable a) (code place : ℕ) (h : 3 ≤ code) (k : code ≤ 5) where
   pub connective_refused : node_room false a.nodes a.atoms a.depth ≡ false → LaysMore (connective place a.depth (node_of code) ∷ []) a (refused_laying a TOO_MANY place)
   unfolding first_refusal
-  connective_refused e = one_refused a _ (connective place a.depth (node_of code)) ready.number_none _ (rw ((connective_code code h k).no_atom_lem, e) refl) refl refl refl
+  connective_refused e = one_refused a _ (connective place a.depth (node_of code)) ready.number_none _ (rw ((connective_code code h k).no_atom, e) refl) refl refl refl
 
   pub connective_laid : node_room false a.nodes a.atoms a.depth ≡ true → LaysMore (connective place a.depth (node_of code) ∷ []) a (with_code a code)
   unfolding first_refusal noted all
   connective_laid room =
       let known = connective_code code h k in
-      one_more a (with_code a code) (connective place a.depth (node_of code)) ready.number_none ready.few (rw (known.no_atom_lem, room) refl)
-      (record { question = rw (known.no_atom_lem, known.same_code) refl; nodes = refl; atoms = rw known.no_atom_lem (omega arith); refusal = refl; depth = refl })
+      one_more a (with_code a code) (connective place a.depth (node_of code)) ready.number_none ready.few (rw (known.no_atom, room) refl)
+      (record { question = rw (known.no_atom, known.same_code) refl; nodes = refl; atoms = rw known.no_atom (omega arith); refusal = refl; depth = refl })
 
 -- and then one level deeper, unless it was refused
 

@@ -57,7 +57,7 @@ pub record HeldIn (xs : List PlacedNode) (l : Laying) : Type 0 where
 
 pub record Lays (xs : List PlacedNode) (l : Laying) : Type 0 where
   pub refusal_is : l.refusal ≡ refusal_or (first_refusal (placed_checks 0 0 xs))
-  pub held_in_lem : first_refusal (placed_checks 0 0 xs) ≡ none → HeldIn xs l
+  pub held_in : first_refusal (placed_checks 0 0 xs) ≡ none → HeldIn xs l
 
 -- nothing is refused so far
 pub record Layable (l : Laying) : Type 0 where

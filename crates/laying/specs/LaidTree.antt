@@ -42,7 +42,7 @@ tree_atoms n depth (Formula.or at f g) = atoms_append n (placed_from (suc depth)
 
 pub empty_lays : (n : ℕ) → Lays [] (empty_laying n)
 unfolding placed_checks first_refusal atoms_laid joined at_front
-empty_lays n = record { refusal_is = refl; held_in_lem = λ e. record { question_is = refl; nodes_are = refl; atoms_are = refl } }
+empty_lays n = record { refusal_is = refl; held_in = λ e. record { question_is = refl; nodes_are = refl; atoms_are = refl } }
 
 pub empty_layable : (n : ℕ) → n ≤ most_variables → Layable (empty_laying n)
 empty_layable n h = record { few = h; number_none = refl }
@@ -57,7 +57,7 @@ module _ (f : Formula) (l : Laying) (h : Lays (placed_from 1 f) l) where
 
   -- the question that is laid, where nothing was refused
   pub laid_question_lem : l.refusal.number ≡ 0 → laid_question l ≡ held_as l.n (tree_of l.n f)
-  laid_question_lem z = (h.held_in_lem (none_told z)).question_is ∙ (λ i. held_by l.n (tree_nodes l.n 1 f i) (tree_atoms l.n 1 f i))
+  laid_question_lem z = (h.held_in (none_told z)).question_is ∙ (λ i. held_by l.n (tree_nodes l.n 1 f i) (tree_atoms l.n 1 f i))
 
   pub laid_accepted : l.refusal.number ≡ 0 → record { answer = ReadAnswer.Accepted; question = laid_question l } ≡ laid_out l.n f
   unfolding laid_out

@@ -46,12 +46,12 @@ module _ (a b : Laying) (xs : List PlacedNode) (m : LaysMore xs a b) where
       still zs h =
           let e : first_refusal (placed_checks 0 0 ((zs ++ xs) ++ ys)) ≡ some b.refusal = stays zs (m.laid_more zs h) in
           subst (λ (l : List PlacedNode). Lays l b) (append_assoc zs xs ys)
-          (record { refusal_is = rw e refl; held_in_lem = λ z. absurd (let n : ◌≡◌ {A = ℕ} 0 1 = cc in omega arith) })
+          (record { refusal_is = rw e refl; held_in = λ z. absurd (let n : ◌≡◌ {A = ℕ} 0 1 = cc in omega arith) })
 
 -- ---- the depth
 
 at_depth_lem : (xs : List PlacedNode) (l : Laying) (depth : ℕ) → Lays xs l → Lays xs (at_depth l depth)
-at_depth_lem xs l depth h = record { refusal_is = h.refusal_is; held_in_lem = λ e. let k = h.held_in_lem e in record { question_is = k.question_is; nodes_are = k.nodes_are; atoms_are = k.atoms_are } }
+at_depth_lem xs l depth h = record { refusal_is = h.refusal_is; held_in = λ e. let k = h.held_in e in record { question_is = k.question_is; nodes_are = k.nodes_are; atoms_are = k.atoms_are } }
 
 -- nodes laid at another depth, and then the depth put back
 pub more_at_depth : (a b : Laying) (depth : ℕ) (xs : List PlacedNode) → LaysMore xs (at_depth a depth) b → LaysMore xs a (at_depth b a.depth)
@@ -112,7 +112,7 @@ module _ (a b : Laying) (x : PlacedNode) (z : a.refusal.number ≡ 0) where
   unfolding placed_checks
   one_checked zs h =
       let e : first_refusal (placed_checks 0 0 zs) ≡ none = none_before zs h in
-      let held : HeldIn zs a = h.held_in_lem e in
+      let held : HeldIn zs a = h.held_in e in
       let k : 0 + length zs ≡ a.nodes = omega (arith, held.nodes_are) in
       let m : 0 + length (atoms_laid a.n zs) ≡ a.atoms = omega (arith, held.atoms_are) in
       ap first_refusal (checks_append a.n 0 0 zs (x ∷ []))
@@ -125,7 +125,7 @@ module _ (a b : Laying) (x : PlacedNode) (z : a.refusal.number ≡ 0) where
     depth_kept = d;
     laid_more = λ zs h.
         let g : first_refusal (placed_checks 0 0 (zs ++ (x ∷ []))) ≡ some r = one_checked zs h ∙ e in
-        record { refusal_is = f ∙ rw g refl; held_in_lem = λ y. absurd (let q : ◌≡◌ {A = ℕ} 0 1 = cc in omega arith) };
+        record { refusal_is = f ∙ rw g refl; held_in = λ y. absurd (let q : ◌≡◌ {A = ℕ} 0 1 = cc in omega arith) };
   }
 
   pub one_more : a.n ≤ most_variables → first_refusal (placed_here a.nodes a.atoms x) ≡ none → LaidOne x a b → LaysMore (x ∷ []) a b
@@ -136,7 +136,7 @@ module _ (a b : Laying) (x : PlacedNode) (z : a.refusal.number ≡ 0) where
         let g : first_refusal (placed_checks 0 0 (zs ++ (x ∷ []))) ≡ none = one_checked zs h ∙ e in
         record {
           refusal_is = o.refusal ∙ h.refusal_is ∙ ap refusal_or (none_before zs h ∙ sym g);
-          held_in_lem = λ y. held zs (h.held_in_lem (none_before zs h));
+          held_in = λ y. held zs (h.held_in (none_before zs h));
         };
   }
     where

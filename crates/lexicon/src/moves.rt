@@ -177,19 +177,19 @@ fn leaves_token(byte: u8) -> u8
     }
 }
 
-fn on_or_stuck(goes_on_lem: bool, state: u8) -> u8
-    ensures { result ≡ cond goes_on_lem state (move_code stuck) }
+fn on_or_stuck(goes_on: bool, state: u8) -> u8
+    ensures { result ≡ cond goes_on state (move_code stuck) }
 {
-    if goes_on_lem {
+    if goes_on {
         return state;
     }
     STUCK
 }
 
-fn on_or_left(goes_on_lem: bool, state: u8, byte: u8) -> u8
-    ensures { result ≡ cond goes_on_lem state (move_code (leaves_token byte)) }
+fn on_or_left(goes_on: bool, state: u8, byte: u8) -> u8
+    ensures { result ≡ cond goes_on state (move_code (leaves_token byte)) }
 {
-    if goes_on_lem {
+    if goes_on {
         return state;
     }
     leaves_token(byte)

@@ -116,7 +116,7 @@ pub record FreshBits (sums : List ℤ) (letters fresh : ℕ) : Type 0 where
 
 pub record Task (plan : Plan) (sums : List ℤ) : Type 0 where
   pub narrow : plan.width ≤ most_atoms
-  pub some_letters_lem : 0 < plan.letters
+  pub some_letters : 0 < plan.letters
   pub few_letters : plan.letters ≤ most_letters
   pub sums_fit : SumsFit sums plan.letters
   pub blank : (letter i : ℕ) → letter < plan.letters → plan.width ≤ i → i < most_atoms → get_or sums (most_atoms * letter + i) (pos 0) ≡ pos 0

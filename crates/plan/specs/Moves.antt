@@ -23,7 +23,7 @@ pub data After (plan : Plan) (i a : ℕ) : ℕ → ℕ → Type 0 where
 -- from s to the place after it, with so many rows
 pub record Moved (plan : Plan) (s : Stand) (count : ℕ) (to : Stand) : Type 0 where
   pub count_is : to.count ≡ count
-  pub goes_on_lem : to.stopped ≡ false
+  pub goes_on : to.stopped ≡ false
   pub place : After plan s.row s.letter to.row to.letter
 
 -- how far it has come

@@ -96,7 +96,7 @@ module _ {q : Question} {plan : Plan} {sums : List ℤ} (p : Planned q plan sums
   unfolding t
   question_task = record {
     narrow = rw t.count (few_atoms t.limits);
-    some_letters_lem = rw p.letters_are (pow_pos q.n);
+    some_letters = rw p.letters_are (pow_pos q.n);
     few_letters = rw p.letters_are (pow_mono t.limits.variables);
     sums_fit = λ letter i h l. sums_small t letter i (rw p.letters_are at h) l;
     blank = λ letter i h l few. t.sums_are.blank letter i (rw p.letters_are at h) l few;

@@ -133,7 +133,7 @@ module _ {text : List ℕ} {s : Script} {k : Kept} (keeps : Keeps text s k) wher
     check_is = f;
     declarations_are = keeps.declarations_are;
     names_stand = keeps.names_stand;
-    spelt_from_lem = keeps.spelt_from_lem;
+    spelt_from = keeps.spelt_from;
     no_name_twice = keeps.no_name_twice;
     asserted_are = keeps.asserted_are;
     outside_is = lower_more k.outside fault outside s.outside places l keeps.outside_is g;
@@ -148,7 +148,7 @@ module _ {text : List ℕ} {s : Script} {k : Kept} (keeps : Keeps text s k) wher
     check_is = keeps.check_is;
     declarations_are = keeps.declarations_are;
     names_stand = keeps.names_stand;
-    spelt_from_lem = keeps.spelt_from_lem;
+    spelt_from = keeps.spelt_from;
     no_name_twice = keeps.no_name_twice;
     asserted_are = omega (arith, keeps.asserted_are, length-append s.asserted (c ∷ []));
     outside_is = lower_more k.outside fault outside s.outside c.faults l keeps.outside_is g;
@@ -184,7 +184,7 @@ module _ {text : List ℕ} {s : Script} {k : Kept} (keeps : Keeps text s k) wher
       check_is = keeps.check_is;
       declarations_are = signed_are;
       names_stand = keeps.names_stand;
-      spelt_from_lem = keeps.spelt_from_lem;
+      spelt_from = keeps.spelt_from;
       no_name_twice = subst Distinct (kept_names keeps ∙ sym (declared_names_lem text (signed_at k i)) ∙ sym (ap names_of signed_are)) keeps.no_name_twice;
       asserted_are = keeps.asserted_are;
       outside_is = keeps.outside_is;
@@ -207,7 +207,7 @@ module _ {text : List ℕ} {s : Script} {k : Kept} (keeps : Keeps text s k) wher
       check_is = keeps.check_is;
       declarations_are = rw (kept_count keeps, lt-leb k.count most_variables (omega arith)) keeps.declarations_are;
       names_stand = keeps.names_stand;
-      spelt_from_lem = keeps.spelt_from_lem;
+      spelt_from = keeps.spelt_from;
       no_name_twice = rw (kept_count keeps, lt-leb k.count most_variables (omega arith)) keeps.no_name_twice;
       asserted_are = keeps.asserted_are;
       outside_is = keeps.outside_is;
@@ -275,10 +275,10 @@ module _ {text : List ℕ} {s : Script} {k : Kept} (keeps : Keeps text s k) wher
 
       spelt_now : (i : ℕ) → i < k.count + 1 → get_or next.bounds (2 * i) 0 ≡ spelt_from text (get_or next.tokens i 0)
       spelt_now i h = by_cases (dec_lt i k.count)
-          (λ p. bound_other (2 * i) (omega arith) ∙ keeps.spelt_from_lem i p ∙ ap (spelt_from text) (sym (get_or-set_other k.tokens k.count i n.place 0 (λ e. let z : ⊥ = omega arith in z))))
+          (λ p. bound_other (2 * i) (omega arith) ∙ keeps.spelt_from i p ∙ ap (spelt_from text) (sym (get_or-set_other k.tokens k.count i n.place 0 (λ e. let z : ⊥ = omega arith in z))))
           (λ p.
           let e : i ≡ k.count = omega arith in
-          let spelt : n.from ≡ spelt_from text n.place = says.spelt_from_lem (nameable_symbol text n (word_in text n) says.word_is known) in
+          let spelt : n.from ≡ spelt_from text n.place = says.spelt_from (nameable_symbol text n (word_in text n) says.word_is known) in
           ap (λ (j : ℕ). get_or next.bounds (2 * j) 0) e ∙ from_here ∙ spelt
           ∙ ap (spelt_from text) (sym (get_or-set_same k.tokens k.count n.place 0 (omega (arith, keeps.whole.tokens_length))) ∙ ap (λ (j : ℕ). get_or next.tokens j 0) (sym e)))
 
@@ -298,7 +298,7 @@ module _ {text : List ℕ} {s : Script} {k : Kept} (keeps : Keeps text s k) wher
         check_is = keeps.check_is;
         declarations_are = rw (kept_count keeps, le-leb k.count most_variables (omega arith)) names_now;
         names_stand = record { room = omega (arith, bounds_whole); at_most_seven = omega arith; spans = spans_now };
-        spelt_from_lem = spelt_now;
+        spelt_from = spelt_now;
         no_name_twice = rw (kept_count keeps, le-leb k.count most_variables (omega arith)) twice_none;
         asserted_are = keeps.asserted_are;
         outside_is = keeps.outside_is;

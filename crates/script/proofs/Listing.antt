@@ -75,7 +75,7 @@ module _ (text : List ℕ) (at depth : ℕ) (f : Form) (reads : FormReads text a
           parts = by_cases (dec_lt f.kind 3)
               (λ p. let e : f.kind ≡ 2 = omega arith in rw (eq-eqb f.kind 2 e) (list_parts _ _ _ _ (r.open_list e).forms ∙ ap (λ (l : List Part). record { place = f.place; word = other_word } ∷ l) more))
               (λ p. rw (ne_eqb f.kind 2 (λ e. omega arith)) (word_parts _ _ _ _ (r.word_here (omega arith)).forms ∙ ap (λ (l : List Part). record { place = f.place; word = bare_of (stretch text f.place f.next) } ∷ l) more));
-          says = record { word_is = word_known text f some_form stands.kind_known r.word_says; spelt_inside = stands.spelt_inside; spelt_from_lem = stands.spelt_from_lem };
+          says = record { word_is = word_known text f some_form stands.kind_known r.word_says; spelt_inside = stands.spelt_inside; spelt_from = stands.spelt_from };
           unbroken = rest.unbroken;
         }
 

@@ -50,7 +50,7 @@ pub record Keeps (text : List ℕ) (s : Script) (k : Kept) : Type 0 where
   pub check_is : k.check ≡ check_place s.stage
   pub declarations_are : s.declarations ≡ declarations_in text k
   pub names_stand : NamesStand text k.bounds k.count
-  pub spelt_from_lem : (i : ℕ) → i < k.count → get_or k.bounds (2 * i) 0 ≡ spelt_from text (get_or k.tokens i 0)
+  pub spelt_from : (i : ℕ) → i < k.count → get_or k.bounds (2 * i) 0 ≡ spelt_from text (get_or k.tokens i 0)
   pub no_name_twice : Distinct (names_of s.declarations)
   pub asserted_are : k.asserted ≡ length s.asserted
   pub outside_is : k.outside ≡ spot_of (lowest_of s.outside)

@@ -39,7 +39,7 @@ pub data WordIs (text : List ℕ) (f : Form) : Bare → Type 0 where
 pub record PartSays (text : List ℕ) (f : Form) : Type 0 where
   pub word_is : WordIs text f (word_in text f)
   pub spelt_inside : (f.from ≤ f.to) × (f.to ≤ length text)
-  pub spelt_from_lem : f.kind ≡ SYMBOL → f.from ≡ spelt_from text f.place
+  pub spelt_from : f.kind ≡ SYMBOL → f.from ≡ spelt_from text f.place
 
 -- ---- none, one, two, three, or four and more
 

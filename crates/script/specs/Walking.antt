@@ -79,7 +79,7 @@ module _ (text : List ℕ) (next : ℕ) (k : Kept) (so_far : ScriptSoFar text ne
         let rest = rest-behind next 0 so_far.unbroken (reads 0 so_far.unbroken) some_form in
         let keeps : Keeps text (after text f so_far.script) r = kept so_far.script so_far.keeps in
         let grown = asserted_once so_far.script.stage (command_in text f) f.place (forms_behind text f) so_far.script in
-        let further : f.place < f.next = stands.goes_on_lem (λ e. omega arith) in
+        let further : f.place < f.next = stands.goes_on (λ e. omega arith) in
         record {
           script = after text f so_far.script;
           keeps = keeps;

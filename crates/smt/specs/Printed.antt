@@ -142,7 +142,7 @@ pub data UnknownPrinted (text : List ℕ) : Type 0 where
 
 pub record ErrorPrinted (text : List ℕ) (r : Refusal) : Type 0 where
   pub short : length text ≤ most_text
-  pub refused_by_lem : (imported text).answer ≡ ReadAnswer.Refused r
+  pub refused_by : (imported text).answer ≡ ReadAnswer.Refused r
 
 module _ (text : List ℕ) where
   module _ (short : length text ≤ most_text) (accepted : (imported text).answer ≡ ReadAnswer.Accepted) where
@@ -248,7 +248,7 @@ module _ (text : List ℕ) where
     where
       said : Way text → StartsWith error_word (solved text) → (r : Refusal) × ErrorPrinted text r
       said (too_long h e) b = absurd ((long_other e).2 b)
-      said (refused r h a e) b = (r, record { short = h; refused_by_lem = a })
+      said (refused r h a e) b = (r, record { short = h; refused_by = a })
       said (taken h a) b =
           let s = is_error text (bounds_if ReadAnswer.Accepted text) (names_count text) (solved_for text).word (solved_for text).answer (rw (sym (told_is h a)) at b) in
           absurd (not_refused h a s.0 s.1)
@@ -256,14 +256,14 @@ module _ (text : List ℕ) where
       back : (r : Refusal) → ErrorPrinted text r → Way text → StartsWith error_word (solved text)
       back r p (too_long h e) = absurd (omega (arith, p.short))
       back r p (refused s h a e) = ap (take (length error_word)) (sym e)
-      back r p (taken h a) = let z : ReadAnswer.Refused r ≡ ReadAnswer.Accepted = sym p.refused_by_lem ∙ a in absurd (other z)
+      back r p (taken h a) = let z : ReadAnswer.Refused r ≡ ReadAnswer.Accepted = sym p.refused_by ∙ a in absurd (other z)
         where
           other : ReadAnswer.Refused r ≡ ReadAnswer.Accepted → ⊥
           other z = let y : ◌≡◌ {A = ℕ} 0 1 = cc in omega arith
 
   pub error_line_lem : (r : Refusal) → ErrorPrinted text r → solved text ≡ error_line r
   unfolding solved
-  error_line_lem r p = rw (le-leb (length text) most_text p.short, p.refused_by_lem)
+  error_line_lem r p = rw (le-leb (length text) most_text p.short, p.refused_by)
 
   -- ---- what is printed says of the text
 

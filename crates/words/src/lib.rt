@@ -124,7 +124,7 @@ fn cells_fit(width: usize, rows: usize, cells: &[u16]) -> bool
 }
 
 // Whether the cells are one or more whole rows, at most 65,535, of cells that fit.
-fn table_fits_lem(n: usize, cells: &[u16]) -> bool
+fn table_fits(n: usize, cells: &[u16]) -> bool
     requires { n ≤ most_variables }
     ensures { result ≡ table_fits n cells.now }
 {

@@ -16,10 +16,10 @@ returns c =
     let s = c.before.before in
     let a = s.before.before.args in
     let k = get_or a.constants.now a.atom (pos 0) in
-    let fs : SFits w64 s.sum_at_lem.result = record { sfits = s.sum_at_lem.type-inv } in
+    let fs : SFits w64 s.sum_at.result = record { sfits = s.sum_at.type-inv } in
     let fk : SFits w32 k = record { sfits = c.before.k.given } in
-    let e : c.stands.result ≡ compares (kind_of_code a.code) s.sum_at_lem.result k = simp (to_z-of_z, fs, fk) at c.stands.ensures in
-    e ∙ ap (λ (z : ℤ). compares (kind_of_code a.code) z k) s.sum_at_lem.ensures
+    let e : c.stands.result ≡ compares (kind_of_code a.code) s.sum_at.result k = simp (to_z-of_z, fs, fk) at c.stands.ensures in
+    e ∙ ap (λ (z : ℤ). compares (kind_of_code a.code) z k) s.sum_at.ensures
 
 pub holds-spec : {M : Type 1} → statement M
 holds-spec =

@@ -27,7 +27,7 @@ explore-few-requires c κs =
     rw c.before.before.with_rows.ensures (
       fewer_task a.plan f.result s.requires.0,
       (
-        start_stands (machine a.plan a.sums.now a.keys.now) r (sym run.start_is) (rw run.letters_are s.requires.0.some_letters_lem)
+        start_stands (machine a.plan a.sums.now a.keys.now) r (sym run.start_is) (rw run.letters_are s.requires.0.some_letters)
             (omega (arith, f.ensures, r.some_rows)) (omega (arith, f.ensures)),
         omega (arith, f.ensures),
       ),

@@ -138,7 +138,7 @@ body-length-requires : tie.Need-body-length-requires invariant-loop decreases-lo
 body-length-requires c κs = few_variables (turn (asked (took c))).before
 
 add-place-2 : tie.Need-overflow-add-place-2 invariant-loop decreases-loop
-add-place-2 c = omega (arith, (node (took c.before)).node.within, c.body_length_lem.ensures, (asked (took c.before)).before.before.before.before.before.before.before.before.before.before.before.before.good.0)
+add-place-2 c = omega (arith, (node (took c.before)).node.within, c.body_length.ensures, (asked (took c.before)).before.before.before.before.before.before.before.before.before.before.before.before.good.0)
 
 loop-less : tie.Need-loop-smaller invariant-loop decreases-loop
 loop-less c = omega (arith, (node (took c.before)).room, grown_nodes _ _ _ c.before.before.grown.ensures)
@@ -148,7 +148,7 @@ loop-again c =
     let t = took c.before in
     let k = asked t in
     left_again (turn k).loop.inv k.before.before.before.before.before.if1.taken _ (sym (answer k) ∙ t.before.code.given.1)
-    _ c.body_length_lem.ensures _ _ (k.Node-at.ensures.noted _ t.before.code.given.1) (after k) c.before.before.grown.ensures
+    _ c.body_length.ensures _ _ (k.Node-at.ensures.noted _ t.before.code.given.1) (after k) c.before.before.grown.ensures
 
 same-length-4 : tie.Need-same-length-4 invariant-loop decreases-loop
 same-length-4 c = c.before.before.before.loop.invariant.full.codes ∙ sym (full c.before.before.before.before).codes

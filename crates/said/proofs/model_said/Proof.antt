@@ -25,7 +25,7 @@ returns c =
 returns-2 : tie.Need-returns-2
 returns-2 c =
     let s = c.before.before.before.before.before.before.before.before.before.before.before.before in
-    put_as (ap (λ (a : SpellAnswer). model_by a s.args.text.now s.args.bounds.now s.args.n s.args.word.now) (sym c.before.before.before.before.before.refusal.given.1 ∙ c.before.before.before.before.before.before.before.spell.ensures)) c.before.before.error_line_lem.ensures
+    put_as (ap (λ (a : SpellAnswer). model_by a s.args.text.now s.args.bounds.now s.args.n s.args.word.now) (sym c.before.before.before.before.before.refusal.given.1 ∙ c.before.before.before.before.before.before.before.spell.ensures)) c.before.before.error_line.ensures
 
 pub model-said-spec : {M : Type 1} → statement M
 model-said-spec = tie.close (tie.spec (λ c κs. search rules) (λ c. search rules) model-requires (λ c. search rules) (λ c κs. search rules) (λ c. search rules) returns (λ c. search rules) returns-2)

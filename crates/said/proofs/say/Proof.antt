@@ -36,7 +36,7 @@ returns-4 c =
 returns-5 : tie.Need-returns-5
 returns-5 c =
     let s = c.before.before.before.before.before.before.before.before.before.before.before in
-    put_as (said_is s.args.text.now s.args.bounds.now s.args.n s.args.word.now c.before.before.before.before.before.answer2.given.1) c.before.before.error_line_lem.ensures
+    put_as (said_is s.args.text.now s.args.bounds.now s.args.n s.args.word.now c.before.before.before.before.before.answer2.given.1) c.before.before.error_line.ensures
 
 pub say-spec : {M : Type 1} → statement M
 say-spec = tie.close (tie.spec (λ c. search rules) (λ c κs. search rules) (λ c κs. search rules) (λ c. search rules) (λ c. search rules) (λ c κs. search rules) (λ c. search rules) (λ c. search rules) (λ c κs. search rules) (λ c. search rules) (λ c κs. search rules) (λ c. search rules) (λ c κs. search rules) (λ c. search rules) returns (λ c. search rules) returns-2 (λ c. search rules) returns-3 (λ c. search rules) returns-4 (λ c. search rules) returns-5)

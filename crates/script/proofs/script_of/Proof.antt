@@ -24,13 +24,13 @@ command-requires c κs =
     let f = c.before.before.form-at.ensures in
     let l = c.before.before.before.loop.invariant in
     let k = c.if1.false in
-    (command_here _ _ _ l _ f.0 f.1, (l.keeps.names_stand, omega (arith, f.0.goes_on_lem (λ e. omega arith), f.0.inside, f.0.not_before, l.few)))
+    (command_here _ _ _ l _ f.0 f.1, (l.keeps.names_stand, omega (arith, f.0.goes_on (λ e. omega arith), f.0.inside, f.0.not_before, l.few)))
 
 loop-less : tie.Need-loop-smaller invariant-loop decreases-loop
 loop-less c =
     let f = c.before.before.before.before.form-at.ensures.0 in
     let k = c.before.before.if1.false in
-    omega (arith, f.goes_on_lem (λ e. omega arith))
+    omega (arith, f.goes_on (λ e. omega arith))
 
 loop-again : tie.Need-loop-preserved invariant-loop decreases-loop
 loop-again c =

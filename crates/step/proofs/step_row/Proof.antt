@@ -40,9 +40,9 @@ loop-again c =
     let f = step_at a.t1 a.sums.now a.letter a.t4 in
     let cell = read (get_or a.t4 i (pos 0)) c.before.before.step-cell-arg.given in
     let sum = read (get_or a.sums.now (8 * a.letter + i) (pos 0)) c.before.step-cell-arg2.given in
-    let is : c.step_cell_lem.result ≡ f i = rw (cell, sum) at c.step_cell_lem.ensures in
+    let is : c.step_cell.result ≡ f i = rw (cell, sum) at c.step_cell.ensures in
     let room : i < 8 = omega (arith, c.before.before.before.loop-test.true) in
-    (search rules, rw (read c.step_cell_lem.result c.step_cell_lem.type-inv, at_loop.loop.invariant.1, is) (front_next f i (replicate 8 (pos 0)) room))
+    (search rules, rw (read c.step_cell.result c.step_cell.type-inv, at_loop.loop.invariant.1, is) (front_next f i (replicate 8 (pos 0)) room))
 
 returns : tie.Need-returns invariant-loop decreases-loop
 unfolding step_cells at_front

@@ -79,7 +79,7 @@ unfolding FormReads ListEnds HeadReads ListReads
     let read = f.ensures.1 (most_nesting - s.args.nesting) i.unbroken in
     let deep : 0 < most_nesting - s.args.nesting = omega (arith, i.left) in
     let part = other_part read c.word-term.ensures deep c.before.if1.true in
-    let on = f.ensures.0.goes_on_lem (not_end read deep) in
+    let on = f.ensures.0.goes_on (not_end read deep) in
     ((omega (arith, on, part.0, f.ensures.0.not_before), omega (arith, part.0, f.ensures.0.inside)), part.1))
     (λ c κs. c.before.before.form-at.ensures.0.inside)
     (λ c κs. c.before.before.before.before.before.form-at.ensures.0.inside)
@@ -91,7 +91,7 @@ unfolding FormReads ListEnds HeadReads ListReads
     let depth : ℕ = most_nesting - s.args.nesting in
     let here = (f.ensures.1 depth s.requires.1.1.unbroken).open_list c.before.before.before.before.before.if1.false in
     let end = c.before.list-end.ensures in
-    let on = f.ensures.0.goes_on_lem (λ e. omega (arith, c.before.before.before.before.before.if1.false)) in
+    let on = f.ensures.0.goes_on (λ e. omega (arith, c.before.before.before.before.before.if1.false)) in
     let outside = outside_says f.result.place c.before.list-end.result in
     rw c.outside.ensures (
       (omega (arith, on, f.ensures.0.not_before, end.0.0), end.0.1),
@@ -123,7 +123,7 @@ unfolding FormReads ListEnds HeadReads ListReads
     let depth : ℕ = most_nesting - s.args.nesting in
     let opening = c.before.before.before.before.if1.false in
     let here = (f.ensures.1 depth s.requires.1.1.unbroken).open_list opening in
-    let on = f.ensures.0.goes_on_lem (λ e. omega (arith, opening)) in
+    let on = f.ensures.0.goes_on (λ e. omega (arith, opening)) in
     let r = c.terms-from.ensures in
     let names = names_in s.args.text.now s.args.names.now s.args.count in (
       (omega (arith, on, f.ensures.0.not_before, h.ensures.0.0, r.0.0), r.0.1),

@@ -12,7 +12,7 @@ returns : tie.Need-returns
 unfolding HeadReads FormReads
 returns c =
     let f = c.before.before.before.form-at in
-    let goes = f.ensures.0.goes_on_lem (λ e. omega arith) in
+    let goes = f.ensures.0.goes_on (λ e. omega arith) in
     ((omega arith, f.ensures.0.inside), λ depth u. symbol_head (f.ensures.1 depth u) c.before.if1.true refl c.head-code.ensures)
 
 returns-2 : tie.Need-returns-2

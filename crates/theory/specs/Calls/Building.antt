@@ -120,7 +120,7 @@ module _ (q : Question) (r : ℕ) (room : length (rows_of q r) ≤ r) where
   unfolding start_row
   table_run o =
       let k = numbered_rooted (machine_of q) (machine_lawful q) r in
-      rw k.start_row_lem at (run_from 0 k.not_empty o)
+      rw k.start_row at (run_from 0 k.not_empty o)
 
   -- and says yes exactly if the naturals that the word spells satisfy the question
   pub table_says : {w : Word} → Over (letters q.n) w → says_yes q.n (table_of q r) w ≡ satisfied q (spelled q.n w)

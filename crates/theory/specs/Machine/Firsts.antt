@@ -60,7 +60,7 @@ module _ {S : Type 0} (m : Machine S) where
 
     pub after_word : (t : ℕ) → t < length l → after m m.start (word_of m l t) ≡ (row m l t).state
     unfolding after start_row
-    after_word = rows_by _ (rw (word_start l, k.start_row_lem) refl) (λ t z h ih. rw (word_row t z h, after-▹, ih) (sym (k.stepped t z h).target))
+    after_word = rows_by _ (rw (word_start l, k.start_row) refl) (λ t z h ih. rw (word_row t z h, after-▹, ih) (sym (k.stepped t z h).target))
 
     pub word_over : (t : ℕ) → t < length l → Over m.letters (word_of m l t)
     word_over = rows_by _ (rw (word_start l) over-[]) (λ t z h ih. rw (word_row t z h) (over-▹ ih (k.stepped t z h).letter_ok))
@@ -101,7 +101,7 @@ module _ {S : Type 0} (m : Machine S) where
   -- where every row is expanded, every word leads to a row
   pub closed : {l : Rows S} {i a : ℕ} → Table m l i a → length l ≤ i → {w : Word} → Over m.letters w → HasRow m l (after m m.start w)
   unfolding after start_row
-  closed {l} k full = words_by (λ w. HasRow m l (after m m.start w)) (record { at = 0; inside = k.rooted.not_empty; is = rw k.rooted.start_row_lem refl }) next
+  closed {l} k full = words_by (λ w. HasRow m l (after m m.start w)) (record { at = 0; inside = k.rooted.not_empty; is = rw k.rooted.start_row refl }) next
     where
       next : (w : Word) (b : ℕ) → b < m.letters → HasRow m l (after m m.start w) → HasRow m l (after m m.start (w ▹ b))
       next w b p h =
@@ -134,7 +134,7 @@ module _ {S : Type 0} (m : Machine S) (ok : Lawful m) where
       base : Reached f []
       base =
           let k = numbered_rooted m ok f in
-          record { stage = f; later = le_refl f; at = 0; inside = k.not_empty; is = rw k.start_row_lem refl; first = equal (word_start m (numbered m f)) }
+          record { stage = f; later = le_refl f; at = 0; inside = k.not_empty; is = rw k.start_row refl; first = equal (word_start m (numbered m f)) }
 
       next : (w : Word) (b : ℕ) → b < m.letters → Reached f w → Reached f (w ▹ b)
       next w b h r =

@@ -47,7 +47,7 @@ module _ {S : Type 0} (m : Machine S) where
   -- row 0 is the start's, every other row is a step, these steps go up, and the states differ
   pub record Rooted (l : Rows S) : Type 0 where
     pub not_empty : 0 < length l
-    pub start_row_lem : row m l 0 ≡ start_row m
+    pub start_row : row m l 0 ≡ start_row m
     pub stepped : (t : ℕ) → 0 < t → t < length l → Stepped l t (row m l t)
     pub sorted : (t u : ℕ) → 0 < t → t < u → u < length l → Before (row m l t).from (row m l t).letter (row m l u).from (row m l u).letter
     pub apart : (t u : ℕ) → t < u → u < length l → (row m l t).state ≢ (row m l u).state
@@ -151,7 +151,7 @@ module _ {S : Type 0} (m : Machine S) (ok : Lawful m) where
         tried_new = record {
           rooted = record {
             not_empty = omega arith;
-            start_row_lem = old 0 k.rooted.not_empty ∙ k.rooted.start_row_lem;
+            start_row = old 0 k.rooted.not_empty ∙ k.rooted.start_row;
             stepped = λ t z h. ⊎_elim (stepped_old t z) (λ e. rw e stepped_last) (place t h);
             sorted = λ t u z h g. ⊎_elim (λ p. rw (old t (omega arith), old u p) (k.rooted.sorted t u z h p)) (λ e. rw e (sorted_last t z (omega arith))) (place u g);
             apart = λ t u h g. ⊎_elim (λ p. rw (old t (omega arith), old u p) (k.rooted.apart t u h p)) (λ e. rw e (apart_last t (omega arith))) (place u g);
@@ -197,7 +197,7 @@ module _ {S : Type 0} (m : Machine S) (ok : Lawful m) where
   numbered_table zero = record {
     rooted = record {
       not_empty = omega arith;
-      start_row_lem = refl;
+      start_row = refl;
       stepped = λ t z p. absurd (omega arith);
       sorted = λ t u z h p. absurd (omega arith);
       apart = λ t u h p. absurd (omega arith);

@@ -8,7 +8,7 @@ use Rattle.told.proofs.letters_line.Tie as tie
 returns : tie.Need-returns
 returns c =
     let p = c.before.before.before.before.before.before.before.before.before.before.put-bytes in
-    let q = c.before.before.before.before.before.before.letters_said_lem in
+    let q = c.before.before.before.before.before.before.letters_said in
     let r = c.before.before.put_byte in
     (put_both p.ensures (put_both q.ensures.0 r.ensures), omega (arith, p.ensures.ends, q.ensures.1, r.ensures.ends))
 

@@ -20,11 +20,11 @@ abbrev decreases-loop : tie.decreases-loop
 decreases-loop width rows cells column₀ c₀ column c = length cells - c
 
 -- the test that was made is that of the cell
-tested : (c : tie.After-cell-fits invariant-loop decreases-loop) → c.cell_fits_lem.result ≡ cell_fits c.before.before.before.before.before.args.width c.before.before.before.before.before.args.rows c.before.before.before.loop.c (get_or c.before.before.before.before.before.args.cells.now c.before.before.before.loop.c 0)
+tested : (c : tie.After-cell-fits invariant-loop decreases-loop) → c.cell_fits.result ≡ cell_fits c.before.before.before.before.before.args.width c.before.before.before.before.before.args.rows c.before.before.before.loop.c (get_or c.before.before.before.before.before.args.cells.now c.before.before.before.loop.c 0)
 tested c =
     let l = c.before.before.before in
     let x = get_or l.before.before.args.cells.now l.loop.c 0 in
-    c.cell_fits_lem.ensures ∙ ap (λ (k : ℕ). cond (eqb k 0) (leb x 1) (ltb x l.before.before.args.rows)) l.loop.invariant.1
+    c.cell_fits.ensures ∙ ap (λ (k : ℕ). cond (eqb k 0) (leb x 1) (ltb x l.before.before.args.rows)) l.loop.invariant.1
 
 loop-holds : tie.Need-loop-init invariant-loop decreases-loop
 loop-holds c = (omega arith, sym (mod-eq_of_lt c.before.requires), refl)

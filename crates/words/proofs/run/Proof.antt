@@ -22,11 +22,11 @@ n_small : (c : tie.Else1) → c.before.before.before.before.args.n ≤ 6
 n_small c = (from_one c.before.before.before.before.args.n 6 (n_fits c)).1
 
 table_passes : (c : tie.Else2) → table_fits c.before.before.before.before.before.before.args.n c.before.before.before.before.before.before.args.cells.now ≡ true
-table_passes c = passed c.before.table_fits_lem.ensures c.if2.false
+table_passes c = passed c.before.table_fits.ensures c.if2.false
 
-letters_tested : (c : tie.After-letters-fit) → c.letters_fit_lem.result ≡ letters_fit c.before.before.before.before.before.before.before.before.args.n c.before.before.before.before.before.before.before.before.args.word.now
+letters_tested : (c : tie.After-letters-fit) → c.letters_fit.result ≡ letters_fit c.before.before.before.before.before.before.before.before.args.n c.before.before.before.before.before.before.before.before.args.word.now
 letters_tested c =
-    c.letters_fit_lem.ensures ∙
+    c.letters_fit.ensures ∙
     ap (λ (limit : ℕ). all (λ (letter : ℕ). ltb letter limit) c.before.before.before.before.before.before.before.before.args.word.now) c.before.letters.ensures.0
 
 letters_pass : (c : tie.Else3) → letters_fit c.before.before.before.before.before.before.before.before.before.args.n c.before.before.before.before.before.before.before.before.before.args.word.now ≡ true
@@ -40,7 +40,7 @@ returns c = c.run_refused.ensures ∙ sym (ran_no_variables _ _ _ (failed c.befo
 returns-2 : tie.Need-returns-2
 returns-2 c =
     c.run-refused2.ensures ∙
-    sym (ran_no_table _ _ _ (n_fits c.before.before.before) (failed c.before.before.table_fits_lem.ensures c.before.if2.true))
+    sym (ran_no_table _ _ _ (n_fits c.before.before.before) (failed c.before.before.table_fits.ensures c.before.if2.true))
 
 returns-3 : tie.Need-returns-3
 returns-3 c =

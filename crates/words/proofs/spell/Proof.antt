@@ -23,9 +23,9 @@ n_fits c = passed c.before.within.ensures c.if1.false
 variable_fits : (c : tie.Else2) → leb 1 c.before.before.before.before.before.args.variable && leb c.before.before.before.before.before.args.variable c.before.before.before.before.before.args.n ≡ true
 variable_fits c = passed c.before.within2.ensures c.if2.false
 
-fits_tested : (c : tie.After-letters-fit) → c.letters_fit_lem.result ≡ letters_fit c.before.before.before.before.before.before.before.args.n c.before.before.before.before.before.before.before.args.word.now
+fits_tested : (c : tie.After-letters-fit) → c.letters_fit.result ≡ letters_fit c.before.before.before.before.before.before.before.args.n c.before.before.before.before.before.before.before.args.word.now
 fits_tested c =
-    c.letters_fit_lem.ensures ∙
+    c.letters_fit.ensures ∙
     ap (λ (limit : ℕ). all (λ (letter : ℕ). ltb letter limit) c.before.before.before.before.before.before.before.args.word.now) c.before.letters.ensures.0
 
 letters_pass : (c : tie.Else3) → letters_fit c.before.before.before.before.before.before.before.before.args.n c.before.before.before.before.before.before.before.before.args.word.now ≡ true

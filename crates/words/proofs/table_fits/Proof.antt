@@ -3,8 +3,8 @@ use mathlib.Core.Path.{sym, ◌∙◌}
 use borrow.Author.Rules.{rules}
 use Rattle.theory.specs.Numbers.Tests.{failed, passed}
 use Rattle.words.proofs.Tables.{table_ragged, table_miscounted, table_counted}
-use Rattle.words.proofs.table_fits_lem.Statement.{statement}
-use Rattle.words.proofs.table_fits_lem.Tie as tie
+use Rattle.words.proofs.table_fits.Statement.{statement}
+use Rattle.words.proofs.table_fits.Tie as tie
 
 returns : tie.Need-returns
 returns c = sym (table_ragged _ _ _ c.before.table-width.ensures c.if1.true)

@@ -22,11 +22,11 @@ decreases-loop coefficients cell n i₀ i = n - i
 within : (c : tie.Start invariant-loop decreases-loop) → c.args.cell + c.args.n ≤ length c.args.coefficients.now
 within c = c.requires
 
-fits : (c : tie.After-coefficient-fits invariant-loop decreases-loop) (t : Bool) → c.coefficient_fits_lem.result ≡ t → coefficient_fits (get_or c.before.before.before.before.args.coefficients.now (c.before.before.before.before.args.cell + c.before.before.before.loop.i) (pos 0)) ≡ t
+fits : (c : tie.After-coefficient-fits invariant-loop decreases-loop) (t : Bool) → c.coefficient_fits.result ≡ t → coefficient_fits (get_or c.before.before.before.before.args.coefficients.now (c.before.before.before.before.args.cell + c.before.before.before.loop.i) (pos 0)) ≡ t
 fits c t e =
     let a = c.before.before.before.before.args in
     let z = get_or a.coefficients.now (a.cell + c.before.before.before.loop.i) (pos 0) in
-    simp (to_z-of_z w32 z (record { sfits = c.before.coefficient-fits-arg.given })) at (sym c.coefficient_fits_lem.ensures) ∙ e
+    simp (to_z-of_z w32 z (record { sfits = c.before.coefficient-fits-arg.given })) at (sym c.coefficient_fits.ensures) ∙ e
 
 loop-holds : tie.Need-loop-init invariant-loop decreases-loop
 loop-holds c = row_start coefficient_fits c.args.coefficients.now c.args.cell c.args.n

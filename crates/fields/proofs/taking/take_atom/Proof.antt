@@ -14,8 +14,8 @@ use Rattle.fields.proofs.Bodies.{coefficient_beyond, constant_beyond, atom_taken
 use Rattle.fields.proofs.taking.take_atom.Statement.{statement}
 use Rattle.fields.proofs.taking.take_atom.Tie as tie
 
-constant : (c : tie.After-number-at) → to_z w32 (of_z w32 c.number_at_lem.result) ≡ number_at c.before.before.args.bytes.now (c.before.before.args.at + 4 + 4 * c.before.before.args.n)
-constant c = to_z-of_z w32 _ (record { sfits = c.number_at_lem.type-inv }) ∙ c.number_at_lem.ensures
+constant : (c : tie.After-number-at) → to_z w32 (of_z w32 c.number_at.result) ≡ number_at c.before.before.args.bytes.now (c.before.before.args.at + 4 + 4 * c.before.before.args.n)
+constant c = to_z-of_z w32 _ (record { sfits = c.number_at.type-inv }) ∙ c.number_at.ensures
 
 add_start : tie.Need-overflow-add-start
 add_start c = omega (arith, c.before.requires.1, c.before.well-formed.0)
@@ -53,7 +53,7 @@ add-refused c =
 
 -- the row that was taken, and the constant that was put
 module _ (c : tie.After-number-at) where
-  put : set c.before.before.args.constants.now c.before.before.args.atom (to_z w32 (of_z w32 c.number_at_lem.result)) ≡ set c.before.before.args.constants.now c.before.before.args.atom (number_at c.before.before.args.bytes.now (c.before.before.args.at + 4 + 4 * c.before.before.args.n))
+  put : set c.before.before.args.constants.now c.before.before.args.atom (to_z w32 (of_z w32 c.number_at.result)) ≡ set c.before.before.args.constants.now c.before.before.args.atom (number_at c.before.before.args.bytes.now (c.before.before.args.at + 4 + 4 * c.before.before.args.n))
   put = ap (set c.before.before.args.constants.now c.before.before.args.atom) (constant c)
 
 returns : tie.Need-returns

@@ -19,11 +19,11 @@ invariant-loop bytes start n coefficients₀ cell i₀ coefficients i = TakenFro
 abbrev decreases-loop : tie.decreases-loop
 decreases-loop bytes start n coefficients₀ cell i₀ coefficients i = n - i
 
-number : (c : tie.After-number-at invariant-loop decreases-loop) → to_z w32 (of_z w32 c.number_at_lem.result) ≡ number_at c.before.before.before.before.args.bytes.now (c.before.before.before.before.args.start + 4 * c.before.before.loop.i)
-number c = to_z-of_z w32 _ (record { sfits = c.number_at_lem.type-inv }) ∙ c.number_at_lem.ensures
+number : (c : tie.After-number-at invariant-loop decreases-loop) → to_z w32 (of_z w32 c.number_at.result) ≡ number_at c.before.before.before.before.args.bytes.now (c.before.before.before.before.args.start + 4 * c.before.before.loop.i)
+number c = to_z-of_z w32 _ (record { sfits = c.number_at.type-inv }) ∙ c.number_at.ensures
 
-fits : (c : tie.After-coefficient-fits invariant-loop decreases-loop) (t : Bool) → c.coefficient_fits_lem.result ≡ t → coefficient_fits (number_at c.before.before.before.before.before.args.bytes.now (c.before.before.before.before.before.args.start + 4 * c.before.before.before.loop.i)) ≡ t
-fits c t e = ap coefficient_fits (sym (number c.before)) ∙ sym c.coefficient_fits_lem.ensures ∙ e
+fits : (c : tie.After-coefficient-fits invariant-loop decreases-loop) (t : Bool) → c.coefficient_fits.result ≡ t → coefficient_fits (number_at c.before.before.before.before.before.args.bytes.now (c.before.before.before.before.before.args.start + 4 * c.before.before.before.loop.i)) ≡ t
+fits c t e = ap coefficient_fits (sym (number c.before)) ∙ sym c.coefficient_fits.ensures ∙ e
 
 loop-holds : tie.Need-loop-init invariant-loop decreases-loop
 loop-holds c = let a = c.before.args in taken_start a.bytes.now a.start a.n a.cell a.coefficients.now

@@ -19,8 +19,8 @@ invariant-loop numbers i₀ i = (i ≤ 7) × (all coefficient_fits (drop i numbe
 abbrev decreases-loop : tie.decreases-loop
 decreases-loop numbers i₀ i = 7 - i
 
-fits : (c : tie.After-coefficient-fits invariant-loop decreases-loop) → c.coefficient_fits_lem.result ≡ coefficient_fits (get_or c.before.before.before.before.args.t1 c.before.before.before.loop.i (pos 0))
-fits c = rw (to_z-of_z w64 _ (record { sfits = c.before.coefficient-fits-arg.given })) at c.coefficient_fits_lem.ensures
+fits : (c : tie.After-coefficient-fits invariant-loop decreases-loop) → c.coefficient_fits.result ≡ coefficient_fits (get_or c.before.before.before.before.args.t1 c.before.before.before.loop.i (pos 0))
+fits c = rw (to_z-of_z w64 _ (record { sfits = c.before.coefficient-fits-arg.given })) at c.coefficient_fits.ensures
 
 returns : tie.Need-returns invariant-loop decreases-loop
 returns c =

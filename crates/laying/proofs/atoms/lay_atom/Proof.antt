@@ -22,7 +22,7 @@ use Rattle.laying.proofs.atoms.lay_atom.Tie as tie
 returns : tie.Need-returns
 returns c =
     let s = c.before.before.before in
-    rw c.refused_at_lem.ensures (no_room_lem s.args.laying s.requires.0 s.args.head s.args.place s.args.t4 (failed c.before.before.has_room.ensures c.before.if1.true))
+    rw c.refused_at.ensures (no_room_lem s.args.laying s.requires.0 s.args.head s.args.place s.args.t4 (failed c.before.before.has_room.ensures c.before.if1.true))
 
 -- the room that was found
 room : (c : tie.After-coefficients-fit) → let l = c.before.before.before.args.laying in node_room true l.nodes l.atoms l.depth ≡ true

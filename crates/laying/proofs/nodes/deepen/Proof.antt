@@ -14,7 +14,7 @@ add-at-depth c = omega (arith, c.before.before.before.lay-connective.ensures.1 c
 returns-2 : tie.Need-returns-2
 returns-2 c =
     let s = c.before.before.before.before.before in
-    rw c.at_depth_lem.ensures (one_deeper s.args.laying _ _ s.requires.0 c.before.before.before.before.lay-connective.ensures.0 c.before.before.if1.false)
+    rw c.at_depth.ensures (one_deeper s.args.laying _ _ s.requires.0 c.before.before.before.before.lay-connective.ensures.0 c.before.before.if1.false)
 
 pub deepen-spec : {M : Type 1} → statement M
 deepen-spec = tie.close (tie.spec (λ c κs. search rules) returns add-at-depth (λ c κs. search rules) returns-2)

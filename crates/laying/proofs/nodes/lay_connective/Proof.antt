@@ -10,7 +10,7 @@ use Rattle.laying.proofs.nodes.lay_connective.Tie as tie
 returns : tie.Need-returns
 returns c =
     let s = c.before.before.before in
-    rw c.refused_at_lem.ensures
+    rw c.refused_at.ensures
     (connective_refused s.args.laying s.requires.0 s.args.code s.args.place s.requires.1.0 s.requires.1.1 (failed c.before.before.has_room.ensures c.before.if1.true), λ e. absurd (let z : ⊥ = omega (arith, e) in z))
 
 with-code-requires : tie.Need-with-code-requires

@@ -15,7 +15,7 @@ returns c =
     let a = s.args in
     rw c.going.ensures (record {
       count_is = refl;
-      goes_on_lem = refl;
+      goes_on = refl;
       place = next_row (none_left a.plan.fresh a.self.letter a.plan.letters s.requires.0 c.before.before.if1.true);
     })
 
@@ -34,7 +34,7 @@ returns-2 c =
     let a = s.args in
     rw c.going2.ensures (record {
       count_is = refl;
-      goes_on_lem = refl;
+      goes_on = refl;
       place = next_letter (next_below a.plan.fresh a.self.letter a.plan.letters s.requires.1 s.requires.2 c.before.before.if1.false)
           (next_skips a.plan.fresh a.self.letter a.plan.letters s.requires.1 s.requires.2 c.before.before.if1.false);
     })

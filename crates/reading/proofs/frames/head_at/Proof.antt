@@ -21,7 +21,7 @@ shared-slice-read-n c =
 returns : tie.Need-returns
 returns c =
     let a = c.before.before.before.before.before.before.before.args in
-    head_there a.bytes.now a.at (there c.before.before.before) (sym c.before.variables_fit_lem.ensures ∙ c.if1.true)
+    head_there a.bytes.now a.at (there c.before.before.before) (sym c.before.variables_fit.ensures ∙ c.if1.true)
 
 returns-2 : tie.Need-returns-2
 returns-2 c =
@@ -31,7 +31,7 @@ returns-2 c =
 returns-3 : tie.Need-returns-3
 returns-3 c =
     let a = c.before.before.before.before.before.before.before.args in
-    head_beyond a.bytes.now a.at (there c.before.before.before) (sym c.before.variables_fit_lem.ensures ∙ c.if1.false)
+    head_beyond a.bytes.now a.at (there c.before.before.before) (sym c.before.variables_fit.ensures ∙ c.if1.false)
 
 pub head-at-spec : {M : Type 1} → statement M
 head-at-spec =

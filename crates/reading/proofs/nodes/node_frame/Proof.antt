@@ -44,8 +44,8 @@ module _ (c : tie.After-code-of-kind) where
   used u = used_code (here (start c.before)) (λ z. u (code ∙ z))
 
 -- the length that is due, by the code
-due : (c : tie.After-body-length) → c.body_length_lem.result ≡ body_length (start c.before.before.before).args.n (here (start c.before.before.before))
-due c = c.body_length_lem.ensures ∙ ap (body_length (start c.before.before.before).args.n) (node c.before.before)
+due : (c : tie.After-body-length) → c.body_length.result ≡ body_length (start c.before.before.before).args.n (here (start c.before.before.before))
+due c = c.body_length.ensures ∙ ap (body_length (start c.before.before.before).args.n) (node c.before.before)
 
 returns : tie.Need-returns
 returns c =

@@ -14,7 +14,7 @@ returns c text = record {
   check_is = refl;
   declarations_are = refl;
   names_stand = record { room = omega arith; at_most_seven = omega arith; spans = λ i h. absurd (let z : ⊥ = omega arith in z) };
-  spelt_from_lem = λ i h. absurd (let z : ⊥ = omega arith in z);
+  spelt_from = λ i h. absurd (let z : ⊥ = omega arith in z);
   no_name_twice = tt;
   asserted_are = refl;
   outside_is = refl;

@@ -11,7 +11,7 @@ returns c = let f = c.before.before.form-at.ensures in ((f.0.inside, λ h. absur
 returns-2 : tie.Need-returns-2
 returns-2 c = let f = c.before.before.before.form-at.ensures in
     let k = c.before.if1.false in
-    ((f.0.inside, λ h. omega (arith, f.0.goes_on_lem (λ e. omega arith))), reserved_read _ _ _ f.1 f.0 _ c.before.if1.false c.command-code.ensures)
+    ((f.0.inside, λ h. omega (arith, f.0.goes_on (λ e. omega arith))), reserved_read _ _ _ f.1 f.0 _ c.before.if1.false c.command-code.ensures)
 
 pub command-at-spec : {M : Type 1} → statement M
 command-at-spec = tie.close (tie.spec

@@ -22,7 +22,7 @@ abbrev held : tie.Start → Question
 held c = let a = c.args in held_question a.n a.codes.now a.coefficients.now a.constants.now
 
 fit : (c : tie.Else1) → T (variables_fit c.before.before.before.args.n)
-fit c = true_T _ (sym c.before.variables_fit_lem.ensures ∙ not-false _ c.if1.false)
+fit c = true_T _ (sym c.before.variables_fit.ensures ∙ not-false _ c.if1.false)
 
 said : (c : tie.After-formula-of) → FormulaSays (held c.before.before.before.before.before) c.formula-of.result
 said c = rw c.before.count_of.ensures.0 at c.formula-of.ensures
@@ -34,7 +34,7 @@ clear : (c : tie.After-numbers-clear) (t : Bool) → c.numbers-clear.result ≡ 
 clear c t e = sym (clear_alone (held c.before.before.before.before.before.before.before.before.before.before.before) _) ∙ (rw c.before.before.before.before.before.before.before.count_of.ensures.0 at (sym c.numbers-clear.ensures)) ∙ e
 
 returns : tie.Need-returns
-returns c = n_beyond (held c.before.before.before) (sym c.before.variables_fit_lem.ensures ∙ not-true _ c.if1.true)
+returns c = n_beyond (held c.before.before.before) (sym c.before.variables_fit.ensures ∙ not-true _ c.if1.true)
 
 formula-of-requires : tie.Need-formula-of-requires
 formula-of-requires c κs =

@@ -78,7 +78,7 @@ body-length-requires c κs = (entry (asked c)).pre.0
 add-len-2 : tie.Need-overflow-add-len-2 invariant-loop decreases-loop
 add-len-2 c =
     let l = (turn (asked c.before)).loop in
-    omega (arith, l.inv.short, l.inv.few, l.inv.sound.bounded, c.body_length_lem.ensures, body_small _ (node_of (took c.before).before.code.given.0.0) (entry (asked c.before)).pre.0)
+    omega (arith, l.inv.short, l.inv.few, l.inv.sound.bounded, c.body_length.ensures, body_small _ (node_of (took c.before).before.code.given.0.0) (entry (asked c.before)).pre.0)
 
 loop-less : tie.Need-loop-smaller invariant-loop decreases-loop
 loop-less c = omega (arith, (node (took c.before)).room, grown_nodes _ _ _ c.before.before.grown.ensures)
@@ -87,7 +87,7 @@ loop-again : tie.Need-loop-preserved invariant-loop decreases-loop
 loop-again c =
     let k = asked c.before in
     walking_again (turn k).loop.inv k.before.before.if1.taken
-    (entry k).pre.1.coefficients (entry k).pre.0 _ _ (sym (answer k) ∙ (took c.before).before.code.given.1) c.body_length_lem.ensures _ c.before.before.grown.ensures
+    (entry k).pre.1.coefficients (entry k).pre.0 _ _ (sym (answer k) ∙ (took c.before).before.code.given.1) c.body_length.ensures _ c.before.before.grown.ensures
 
 returns-2 : tie.Need-returns-2 invariant-loop decreases-loop
 returns-2 c = walking_end c.before.before.loop.invariant c.before.before.before.before.before.requires.0 c.if1.false

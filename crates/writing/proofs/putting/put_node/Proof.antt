@@ -23,7 +23,7 @@ atom c = sym c.before.is-atom.ensures ∙ c.if1.true
 narrow-requires : tie.Need-narrow-requires
 narrow-requires c κs =
     let s = c.before.before.before in
-    omega (arith, c.body_length_lem.ensures, body_small s.args.n (node_of s.args.code) s.requires.variables)
+    omega (arith, c.body_length.ensures, body_small s.args.n (node_of s.args.code) s.requires.variables)
 
 put-atom-requires : tie.Need-put-atom-requires
 put-atom-requires c κs =
@@ -42,7 +42,7 @@ returns c =
     let e = atom c.before.before.before.before in
     put_with_body (held s) (node_of a.code) a.atom a.at a.bytes.now c.before.before.before.before.before.before.before.before.put-header.new.0 c.before.before.before.before.before.before.before.before.before.before.before.before.kind-of-code.result c.before.before.before.before.before.before.before.before.before.before.narrow.result
     c.before.before.before.before.before.before.before.before.before.before.before.before.kind-of-code.ensures c.before.before.before.before.before.before.before.before.put-header.ensures e
-    (body_is (held s) (node_of a.code) a.atom _ p.coefficients_full p.variables (p.few e) e (c.before.before.before.before.before.before.before.before.before.before.narrow.ensures ∙ c.before.before.before.before.before.before.before.before.before.before.before.body_length_lem.ensures))
+    (body_is (held s) (node_of a.code) a.atom _ p.coefficients_full p.variables (p.few e) e (c.before.before.before.before.before.before.before.before.before.before.narrow.ensures ∙ c.before.before.before.before.before.before.before.before.before.before.before.body_length.ensures))
     c.before.before.put-atom.new.1.1.1.1.0 c.before.before.put-atom.ensures
 
 returns-2 : tie.Need-returns-2
@@ -51,7 +51,7 @@ returns-2 c =
     let a = s.args in
     let e : is_atom (node_of a.code) ≡ false = sym c.before.is-atom.ensures ∙ c.if1.false in
     put_plain (held s) (node_of a.code) a.atom a.at a.bytes.now c.before.before.before.before.put-header.new.0 c.before.before.before.before.before.before.before.before.kind-of-code.result c.before.before.before.before.before.before.narrow.result
-    c.before.before.before.before.before.before.before.before.kind-of-code.ensures c.before.before.before.before.put-header.ensures e (c.before.before.before.before.before.before.narrow.ensures ∙ c.before.before.before.before.before.before.before.body_length_lem.ensures ∙ rw e)
+    c.before.before.before.before.before.before.before.before.kind-of-code.ensures c.before.before.before.before.put-header.ensures e (c.before.before.before.before.before.before.narrow.ensures ∙ c.before.before.before.before.before.before.before.body_length.ensures ∙ rw e)
 
 pub put-node-spec : {M : Type 1} → statement M
 put-node-spec =

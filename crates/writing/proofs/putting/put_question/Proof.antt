@@ -76,7 +76,7 @@ add_at : tie.Need-overflow-add-at invariant-loop decreases-loop
 add_at c = let t = c.before.before.before.before.before in omega (arith, below t, (entry t).requires.short)
 
 add-at-2 : tie.Need-overflow-add-at-2 invariant-loop decreases-loop
-add-at-2 c = let t = c.before.before.before.before.before.before in omega (arith, below t, (entry t).requires.short, counted_length t, c.body_length_lem.ensures)
+add-at-2 c = let t = c.before.before.before.before.before.before in omega (arith, below t, (entry t).requires.short, counted_length t, c.body_length.ensures)
 
 counted-requires : tie.Need-counted-requires invariant-loop decreases-loop
 counted-requires c κs =
@@ -91,9 +91,9 @@ loop-again c =
     let q = held (entry t) in
     let p = c.before.before.before.before.put-node in
     nodes_again l.invariant t.loop-test.true
-    p.new.1.1.1.1.1.0 c.before.body_length_lem.result c.counted.result p.auto.1.1.1.1.1.0
+    p.new.1.1.1.1.1.0 c.before.body_length.result c.counted.result p.auto.1.1.1.1.1.0
     (p.ensures ∙ ap (sets l.bytes l.at) (bytes_alone q _ (code_node q l.i) l.atoms (count t)))
-    (ap (λ (k : ℕ). length (node_bytes q (code_node q l.i) k)) l.invariant.atoms_is ∙ long t ∙ ap (λ (k : ℕ). 4 + k) (sym (c.before.body_length_lem.ensures ∙ counted_length t))) c.counted.ensures
+    (ap (λ (k : ℕ). length (node_bytes q (code_node q l.i) k)) l.invariant.atoms_is ∙ long t ∙ ap (λ (k : ℕ). 4 + k) (sym (c.before.body_length.ensures ∙ counted_length t))) c.counted.ensures
 
 put-header-requires : tie.Need-put-header-requires invariant-loop decreases-loop
 put-header-requires c κs =
