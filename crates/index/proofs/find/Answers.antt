@@ -1,36 +1,53 @@
-use Rattle.std.proofs.Common.{rules, ◌≡◌, not, ◌+◌, ◌*◌, ◌≤◌, ◌<◌, length, take, ℕ, ◌-◌, ◌/◌, ◌%◌, Bool, true, false, nat_eq, nat_lt, List, [], ◌∷◌, ◌++◌, slice_index_or, slice_set, bit_and, bit_or, Fits, w8, w32, w64, Bor, MutBor}
-use Rattle.std.proofs.Math.Seq.{paste}
-use Rattle.index.specs.Rows.{row_at}
-use Rattle.index.specs.Hash.{cell_code, hash_of, bucket_of}
-use Rattle.index.specs.Chains.{linked}
-use Rattle.index.specs.Index.{buckets, Key, Says, CellsAgree, Indexed, Finds, Room, IndexSized, KeyAdded}
-use Rattle.scope.specs.Sizes.{most_atoms, most_states}
+-- `index::find` meets its contract. The invariant: the link is to a row of the key's bucket, and no row after it has the key's cells.
+-- The measure is the number after the link's row.
+use mathlib.Core.Path.{◌≡◌, sym, ap, ◌∙◌}
+use Prim.Native.Nat.{ℕ, ◌<◌}
+use native.Mathlib.Omega.{arith}
+use borrow.Author.Rules.{rules}
+use lib.ListN.{take}
+use Rattle.index.specs.Rows.{row_at, row_end}
+use Rattle.index.specs.Hash.{bucket_of}
+use Rattle.index.specs.Chains.{buckets, Latest, link_after, walk_start, walk_step, walk_less}
+use Rattle.index.specs.Index.{bucket_at}
+use Rattle.index.specs.Laws.{key_bucket}
 use Rattle.index.proofs.find.Goals as goal
+use Rattle.index.proofs.find.Goals.{After-bucket-b, In-loop-link}
 
--- src/lib.rt:106:5
+-- in a turn the link is to a row below count
+below : (c : goal.In-loop-link) → c.loop-link.link < c.args.count
+below c = omega arith
+
+-- a row with the key's cells is in the key's bucket
+there : (c : goal.After-bucket-b) → (s : ℕ) → s < c.args.count → row_at c.args.keys.now c.args.width s ≡ take c.args.width c.args.key.now
+    → bucket_at c.args.keys.now c.args.width (buckets c.args.links.now) s ≡ c.bucket-b.result
+there c s h q =
+    ap (bucket_of _) q ∙ sym (key_bucket _ c.args.width c.requires.key) ∙ sym c.bucket-b.ensures.0
+
 pub loop-link-init : goal.loop-link-init
-loop-link-init c = ?
+loop-link-init c =
+    walk_start _ _ c.requires.indexed.chained (there (goal.at.loop-link-init c).After-bucket-b) c.bucket-b.ensures.1
 
--- src/lib.rt:108:12
 pub same_row-requires : goal.same_row-requires
-same_row-requires c = ?
+same_row-requires c =
+    (
+      c.requires.indexed.sized.narrow,
+      c.requires.key.eight,
+      omega (arith, c.requires.indexed.sized.cells, row_end c.loop-link.link c.args.count c.args.width (below c)),
+    )
 
--- src/lib.rt:109:13
 pub returns-then-same_row : goal.returns-then-same_row
-returns-then-same_row c = ?
+returns-then-same_row c =
+    let l = below (goal.at.returns-then-same_row c).In-loop-link in
+    record { low = omega arith; row = λ _. rw c.if-same_row.true at c.same_row.ensures; none = λ e. absurd (omega arith) }
 
--- src/lib.rt:111:16
-pub bounds-links-n : goal.bounds-links-n
-bounds-links-n c = ?
-
--- src/lib.rt:106:5
 pub loop-link-smaller : goal.loop-link-smaller
-loop-link-smaller c = ?
+loop-link-smaller c =
+    walk_less _ _ c.requires.indexed.chained (there (goal.at.loop-link-smaller c).After-bucket-b) c.loop-link.invariant c.loop-link-test.true
 
--- src/lib.rt:106:5
 pub loop-link-preserved : goal.loop-link-preserved
-loop-link-preserved c = ?
+loop-link-preserved c =
+    walk_step _ _ c.requires.indexed.chained (there (goal.at.loop-link-preserved c).After-bucket-b) c.loop-link.invariant c.loop-link-test.true
+    (rw c.if-same_row.false at c.same_row.ensures)
 
--- src/lib.rt:92:1
 pub returns : goal.returns
-returns c = ?
+returns c = record { low = omega arith; row = λ l. absurd (omega arith); none = λ e s l q. c.loop-link.invariant.none s (omega arith) l q }

@@ -1,15 +1,18 @@
-use Rattle.std.proofs.Common.{◌-◌, ◌≡◌, not, ◌+◌, ◌*◌, ◌≤◌, ◌<◌, length, take, ℕ}
-use Rattle.std.proofs.Math.Seq.{paste}
-use Rattle.index.specs.Rows.{row_at}
-use Rattle.index.specs.Hash.{cell_code, hash_of, bucket_of}
-use Rattle.index.specs.Chains.{linked}
-use Rattle.index.specs.Index.{buckets, Key, Says, CellsAgree, Indexed, Finds, Room, IndexSized, KeyAdded}
-use Rattle.scope.specs.Sizes.{most_atoms, most_states}
+use mathlib.Core.Path.{◌≡◌, sym, ap, ◌∙◌}
+use Prim.Native.Nat.{ℕ, ◌<◌}
+use native.Mathlib.Omega.{arith}
+use borrow.Author.Rules.{rules}
+use lib.ListN.{take}
+use Rattle.index.specs.Rows.{row_at, row_end}
+use Rattle.index.specs.Hash.{bucket_of}
+use Rattle.index.specs.Chains.{buckets, Latest, link_after, walk_start, walk_step, walk_less}
+use Rattle.index.specs.Index.{bucket_at}
+use Rattle.index.specs.Laws.{key_bucket}
 use Rattle.index.proofs.find.Given as goal
 
 abbrev pub invariant-loop-link : goal.invariant-loop-link
-invariant-loop-link l = ?
+invariant-loop-link l =
+    Latest (λ s. bucket_at l.keys l.width (buckets l.links) s ≡ l.b) (λ s. row_at l.keys l.width s ≡ take l.width l.key) l.count l.link
 
--- proposed from the loop's first test
 abbrev pub decreases-loop-link : goal.decreases-loop-link
-decreases-loop-link l = 65535 - l.link
+decreases-loop-link l = link_after l.link

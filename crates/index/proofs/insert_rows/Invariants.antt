@@ -1,0 +1,24 @@
+use mathlib.Core.Path.{◌≡◌, refl, ◌∙◌}
+use mathlib.Core.List.{List}
+use Prim.Native.Nat.{ℕ, ◌-◌, ◌≤◌}
+use native.Mathlib.Nat.{le_antisymm}
+use native.Mathlib.Omega.{arith}
+use borrow.Author.Rules.{rules}
+use lib.ListN.{length}
+use lib.IntN.{ℤ}
+use Rattle.index.specs.Rows.{row_end}
+use Rattle.index.specs.Index.{Indexed, Room}
+use Rattle.index.specs.Laws.{more_indexed}
+use Rattle.index.proofs.insert_rows.Given as goal
+
+-- the rows before `row` are indexed, in links as long as they were
+pub record Begun (keys : List ℤ) (width : ℕ) (links₀ : List ℕ) (count : ℕ) (links : List ℕ) (row : ℕ) : Type 0 where
+  pub low : row ≤ count
+  pub long : length links ≡ length links₀
+  pub indexed : Indexed keys width links row
+
+abbrev pub invariant-loop-row : goal.invariant-loop-row
+invariant-loop-row l = Begun l.keys l.width l.initial.links l.count l.links l.row
+
+abbrev pub decreases-loop-row : goal.decreases-loop-row
+decreases-loop-row l = l.count - l.row

@@ -1,0 +1,27 @@
+use mathlib.Core.Path.{◌≡◌, ap}
+use mathlib.Core.Logic.{⊎_elim}
+use mathlib.Core.List.{List}
+use mir.Syntax.{w32}
+use mir.Val.{of_z}
+use Prim.Native.Nat.{ℕ, ◌+◌, ◌-◌, ◌≤◌, ◌<◌}
+use native.Mathlib.Omega.{arith}
+use borrow.Author.Rules.{rules}
+use borrow.Author.Count.{below_more}
+use lib.ListN.{get_or}
+use lib.IntN.{ℤ, pos}
+use Rattle.theory.specs.Numbers.Bits.{same_bits}
+use Rattle.index.specs.Rows.{row_is, row_cells_lem}
+use Rattle.index.proofs.same_row.Given as goal
+
+-- at most four cells are left from `from` on, and those before from + i agree
+pub record Begun (keys : List ℤ) (width base : ℕ) (key : List ℤ) (from i : ℕ) : Type 0 where
+  pub few : from ≤ 4
+  pub left : width ≤ from + 4
+  pub low : i ≤ 4
+  pub agree : (k : ℕ) → k < from + i → k < width → get_or keys (base + k) (pos 0) ≡ get_or key k (pos 0)
+
+abbrev pub invariant-loop-i : goal.invariant-loop-i
+invariant-loop-i l = Begun l.keys l.width l.base l.key l.from l.i
+
+abbrev pub decreases-loop-i : goal.decreases-loop-i
+decreases-loop-i l = 4 - l.i

@@ -1,0 +1,10 @@
+-- `search::rows::row_right` is safe and ends: what is left of the atoms falls. Assumes nothing.
+use Prim.Native.Nat.{◌-◌}
+use borrow.Author.Rules.{rules}
+use Rattle.search.proofs.rows.row_right.Given as goal
+
+abbrev pub invariant-loop-atom : goal.invariant-loop-atom
+invariant-loop-atom l = Unit
+
+abbrev pub decreases-loop-atom : goal.decreases-loop-atom
+decreases-loop-atom l = l.m - l.atom

@@ -1,0 +1,15 @@
+use Prim.Native.Nat.{◌+◌, ◌*◌, ◌-◌, ◌≤◌, ◌<◌}
+use native.Mathlib.Omega.{arith}
+use mathlib.Core.Path.{◌≡◌, refl, sym, ◌∙◌}
+use lib.ListN.{length, get_or, drop}
+use lib.Dec.{eqb}
+use borrow.Author.Rules.{rules}
+use Rattle.scope.specs.Running.{table_rows, row_after, says_yes}
+use Rattle.words.proofs.Tables.{TableWalk, walk, accept_within, next_within, next_row, row_step, row_last}
+use Rattle.words.proofs.says_yes.Given as goal
+
+abbrev pub invariant-loop-i : goal.invariant-loop-i
+invariant-loop-i l = (l.i ≤ length l.word) × (l.row < table_rows l.n l.cells) × (row_after l.n l.cells l.row (drop l.i l.word) ≡ row_after l.n l.cells 0 l.word)
+
+abbrev pub decreases-loop-i : goal.decreases-loop-i
+decreases-loop-i l = length l.word - l.i
