@@ -17,6 +17,6 @@ four_bytes_lem l at = let e : at + 3 ≡ at + 2 + 1 = omega arith in rw e
 
 pub returns : goal.returns
 returns c =
-    to_z-of_z w32 c.number_of.result (record { sfits = c.number_of.type-inv })
+    to_z-of_z w32 c.number_of.result (record { sfits = c.number_of.type_inv })
     ∙ c.number_of.ensures
     ∙ ap (to_z w32) (c.bits_of_bytes.ensures.0 ∙ four_bytes_lem c.args.bytes.now c.args.at)
