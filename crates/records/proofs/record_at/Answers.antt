@@ -1,5 +1,4 @@
 -- `records::record_at` meets its contract: what the header says and whether the body is there decide the case of `record_at`.
-use borrow.Author.Rules.{rules}
 use native.Mathlib.Omega.{arith}
 use mathlib.Core.Path.{◌∙◌, sym}
 use Rattle.records.proofs.Found.{HeaderFound, header_found, cut, step_short, step_cut, step_whole}

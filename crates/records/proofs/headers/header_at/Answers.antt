@@ -1,5 +1,4 @@
 -- `records::headers::header_at` meets its contract: at each `return` the tests that led there say whether the header is there.
-use borrow.Author.Rules.{rules}
 use borrow.Author.Tests.{le-leb, lt-leb}
 use native.Mathlib.Omega.{arith}
 use mathlib.Core.Path.{◌≡◌, ◌∙◌}

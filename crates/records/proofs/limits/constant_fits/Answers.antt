@@ -3,7 +3,6 @@ use mathlib.Core.Path.{sym}
 use mir.Syntax.{w32}
 use mir.ValLaws.{to_z-of_z}
 use Rattle.records.proofs.Bounds.{too_low, not_too_low}
-use borrow.Author.Rules.{rules}
 use Rattle.records.proofs.limits.constant_fits.Goals as goal
 
 pub returns-then-number : goal.returns-then-number

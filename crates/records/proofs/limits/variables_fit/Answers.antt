@@ -2,7 +2,6 @@
 use mathlib.Core.Path.{sym}
 use borrow.Author.Tests.{le-leb}
 use Rattle.records.proofs.Bounds.{variables_none}
-use borrow.Author.Rules.{rules}
 use Rattle.records.proofs.limits.variables_fit.Goals as goal
 
 pub returns-then-n-lt1 : goal.returns-then-n-lt1

@@ -1,6 +1,5 @@
 -- `records::nodes::body_length` meets its contract.
 use mathlib.Core.Path.{sym, ◌∙◌}
-use borrow.Author.Rules.{rules}
 use Rattle.records.proofs.nodes.body_length.Goals as goal
 
 pub returns-then-is_atom : goal.returns-then-is_atom

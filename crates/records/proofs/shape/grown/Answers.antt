@@ -1,5 +1,4 @@
 -- `records::shape::grown` meets its contract, in its three cases.
-use borrow.Author.Rules.{rules}
 use native.Mathlib.Omega.{arith}
 use lib.ListN.{length-set}
 use Rattle.records.proofs.Shapes.{grown_atom, grown_one, grown_two}
