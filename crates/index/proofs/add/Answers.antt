@@ -1,6 +1,5 @@
 -- `index::add` meets its contract: the store changes no row before count, and gives row count the key's cells.
 use native.Mathlib.Omega.{arith}
-use borrow.Author.Rules.{rules}
 use Rattle.index.specs.Laws.{key_long, stored_indexed, stored_key, more_indexed}
 use Rattle.index.proofs.add.Goals as goal
 

@@ -3,11 +3,10 @@
 use mathlib.Core.Path.{◌≡◌, sym, ap, ◌∙◌}
 use Prim.Native.Nat.{ℕ, ◌<◌}
 use native.Mathlib.Omega.{arith}
-use borrow.Author.Rules.{rules}
 use lib.ListN.{take}
 use Rattle.index.specs.Rows.{row_at, row_end}
 use Rattle.index.specs.Hash.{bucket_of}
-use Rattle.index.specs.Chains.{buckets, Latest, link_after, walk_start, walk_step, walk_less}
+use Rattle.index.specs.Chains.{buckets, walk_start, walk_step, walk_less}
 use Rattle.index.specs.Index.{bucket_at}
 use Rattle.index.specs.Laws.{key_bucket}
 use Rattle.index.proofs.find.Goals as goal
@@ -28,12 +27,11 @@ loop-link-init c =
     walk_start _ _ c.requires.indexed.chained (there (goal.at.loop-link-init c).After-bucket-b) c.bucket-b.ensures.1
 
 pub same_row-requires : goal.same_row-requires
-same_row-requires c =
-    (
-      c.requires.indexed.sized.narrow,
-      c.requires.key.eight,
-      omega (arith, c.requires.indexed.sized.cells, row_end c.loop-link.link c.args.count c.args.width (below c)),
-    )
+same_row-requires c = (
+  c.requires.indexed.sized.narrow,
+  c.requires.key.eight,
+  omega (arith, c.requires.indexed.sized.cells, row_end c.loop-link.link c.args.count c.args.width (below c)),
+)
 
 pub returns-then-same_row : goal.returns-then-same_row
 returns-then-same_row c =

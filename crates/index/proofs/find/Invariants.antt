@@ -1,13 +1,8 @@
-use mathlib.Core.Path.{◌≡◌, sym, ap, ◌∙◌}
-use Prim.Native.Nat.{ℕ, ◌<◌}
-use native.Mathlib.Omega.{arith}
-use borrow.Author.Rules.{rules}
+use mathlib.Core.Path.{◌≡◌}
 use lib.ListN.{take}
-use Rattle.index.specs.Rows.{row_at, row_end}
-use Rattle.index.specs.Hash.{bucket_of}
-use Rattle.index.specs.Chains.{buckets, Latest, link_after, walk_start, walk_step, walk_less}
+use Rattle.index.specs.Rows.{row_at}
+use Rattle.index.specs.Chains.{buckets, Latest, link_after}
 use Rattle.index.specs.Index.{bucket_at}
-use Rattle.index.specs.Laws.{key_bucket}
 use Rattle.index.proofs.find.Given as goal
 
 abbrev pub invariant-loop-link : goal.invariant-loop-link

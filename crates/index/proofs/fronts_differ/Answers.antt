@@ -1,5 +1,4 @@
 -- `index::fronts_differ` meets its contract: each cell read is a cell of 32 bits.
-use borrow.Author.Rules.{rules}
 use Rattle.index.proofs.Four.{four_agree}
 use Rattle.index.proofs.fronts_differ.Goals as goal
 

@@ -1,6 +1,5 @@
 -- `index::hash` meets its contract: each call gives the code of its cell, and no sum is 2 ^ 64.
 use native.Mathlib.Omega.{arith}
-use borrow.Author.Rules.{rules}
 use lib.ListN.{get_or}
 use lib.IntN.{pos}
 use Rattle.theory.specs.Numbers.Bits.{read}

@@ -1,6 +1,5 @@
 -- `index::insert` meets its contract: the two stores are those of `linked`, at the key's bucket.
 use native.Mathlib.Omega.{arith}
-use borrow.Author.Rules.{rules}
 use lib.ListN.{length-set}
 use Rattle.index.proofs.insert.Goals as goal
 

@@ -1,16 +1,11 @@
 -- `index::insert_rows` meets its contract. The invariant: the rows before `row` are indexed. The measure is count less `row`.
-use mathlib.Core.Path.{◌≡◌, refl, ◌∙◌}
-use mathlib.Core.List.{List}
-use Prim.Native.Nat.{ℕ, ◌-◌, ◌≤◌}
+use mathlib.Core.Path.{refl, ◌∙◌}
 use native.Mathlib.Nat.{le_antisymm}
 use native.Mathlib.Omega.{arith}
 use borrow.Author.Rules.{rules}
-use lib.ListN.{length}
-use lib.IntN.{ℤ}
 use Rattle.index.specs.Rows.{row_end}
-use Rattle.index.specs.Index.{Indexed, Room}
+use Rattle.index.specs.Index.{Room}
 use Rattle.index.specs.Laws.{more_indexed}
-use Rattle.index.proofs.insert_rows.Invariants.{Begun}
 use Rattle.index.proofs.insert_rows.Goals as goal
 use Rattle.index.proofs.insert_rows.Goals.{In-loop-row}
 
@@ -35,7 +30,7 @@ load_row-key-requires c = (c.requires.index_sized.narrow, (room c).cells)
 pub insert-requires : goal.insert-requires
 insert-requires c =
     let r = room (goal.at.insert-requires c).In-loop-row in
-    (c.load_row-key.ensures.1.eight, (r.link, c.loop-row.invariant.indexed.sized.few_buckets, r.number))
+    record { key_len = c.load_row-key.ensures.1.eight; count_bound = (r.link, c.loop-row.invariant.indexed.sized.few_buckets, r.number) }
 
 pub loop-row-preserved : goal.loop-row-preserved
 loop-row-preserved c =

@@ -1,14 +1,9 @@
-use mathlib.Core.Path.{◌≡◌, refl, ◌∙◌}
+use mathlib.Core.Path.{◌≡◌}
 use mathlib.Core.List.{List}
 use Prim.Native.Nat.{ℕ, ◌-◌, ◌≤◌}
-use native.Mathlib.Nat.{le_antisymm}
-use native.Mathlib.Omega.{arith}
-use borrow.Author.Rules.{rules}
 use lib.ListN.{length}
 use lib.IntN.{ℤ}
-use Rattle.index.specs.Rows.{row_end}
-use Rattle.index.specs.Index.{Indexed, Room}
-use Rattle.index.specs.Laws.{more_indexed}
+use Rattle.index.specs.Index.{Indexed}
 use Rattle.index.proofs.insert_rows.Given as goal
 
 -- the rows before `row` are indexed, in links as long as they were

@@ -1,6 +1,6 @@
 -- `index::load_row` meets its contract. The invariant: the key has the row's cells below i, and 0 from there on. The measure is width less i.
-use mathlib.Core.Path.{◌≡◌, sym, ◌∙◌}
-use Prim.Native.Nat.{ℕ, ◌+◌, ◌*◌, ◌-◌, ◌≤◌, ◌<◌}
+use mathlib.Core.Path.{sym, ◌∙◌}
+use Prim.Native.Nat.{◌+◌, ◌*◌}
 use native.Mathlib.Nat.{le_antisymm}
 use native.Mathlib.Omega.{arith}
 use borrow.Author.Rules.{rules}
@@ -10,7 +10,6 @@ use lib.Seq.{get_or-set_same, get_or-set_other}
 use lib.IntN.{pos}
 use Rattle.theory.specs.Numbers.Bits.{read}
 use Rattle.index.specs.Rows.{row_is}
-use Rattle.index.specs.Index.{Key}
 use Rattle.index.specs.Laws.{key_zeros, key_more}
 use Rattle.index.proofs.load_row.Goals as goal
 

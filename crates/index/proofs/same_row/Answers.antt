@@ -1,20 +1,16 @@
 -- `index::same_row` meets its contract: the first four cells at once, then the rest. The invariant: the row and the key agree below from + i, as
 -- far as the row goes. The measure is 4 less i.
 use mathlib.Core.Path.{◌≡◌, ap}
-use mathlib.Core.Logic.{⊎_elim}
-use mathlib.Core.List.{List}
 use mir.Syntax.{w32}
 use mir.Val.{of_z}
-use Prim.Native.Nat.{ℕ, ◌+◌, ◌-◌, ◌≤◌, ◌<◌}
 use native.Mathlib.Omega.{arith}
 use borrow.Author.Rules.{rules}
 use borrow.Author.Count.{below_more}
-use lib.ListN.{get_or}
-use lib.IntN.{ℤ, pos}
+use lib.IntN.{pos}
 use Rattle.theory.specs.Numbers.Bits.{same_bits}
 use Rattle.index.specs.Rows.{row_is, row_cells_lem}
-use Rattle.index.proofs.same_row.Invariants.{Begun}
 use Rattle.index.proofs.same_row.Goals as goal
+use Rattle.index.proofs.same_row.Goals.{then-width-ge4+else-fronts_differ, else-width-ge4, then-at-width+else-keys-base, else-at-width}
 
 pub returns-then-fronts_differ : goal.returns-then-fronts_differ
 returns-then-fronts_differ c =
@@ -25,19 +21,15 @@ returns-then-fronts_differ c =
 
 pub loop-i-init : goal.loop-i-init
 loop-i-init c =
-    let narrow = c.requires.0 in
-    ⊎_elim
-    (λ four_agree.
-    let same = rw four_agree.2.left at four_agree.1.ensures in
-    record { few = omega (arith, four_agree.3); left = omega (arith, four_agree.3, narrow); low = omega arith; agree = λ k h l. same k (omega (arith, four_agree.3)) })
-    (λ none.
-    record {
-      few = omega (arith, none.1);
-      left = omega (arith, none.1, none.0.left);
-      low = omega arith;
-      agree = λ k h l. absurd (omega (arith, none.1));
-    })
-    c.if-width-ge4.branch
+    elim c.if-width-ge4.branch [
+      | then-width-ge4+else-fronts_differ w ↦
+          let same = rw w.if-fronts_differ.false at w.fronts_differ.ensures in
+          let is : c.if-width-ge4.from ≡ 4 = w.from-is in
+          record { few = omega arith; left = omega arith; low = omega arith; agree = λ k h l. same k (omega arith) }
+      | else-width-ge4 w ↦
+          let is : c.if-width-ge4.from ≡ 0 = w.from-is in
+          record { few = omega arith; left = omega arith; low = omega arith; agree = λ k h l. absurd (omega arith) }
+    ]
 
 pub returns-then-keys-base : goal.returns-then-keys-base
 returns-then-keys-base c = λ e. c.if-keys-base.true (ap (of_z w32) (row_cells_lem _ _ _ _ (pos 0) e _ c.if-at-width.true))
@@ -52,8 +44,10 @@ loop-i-preserved c =
       agree = λ k h.
           below_more _ _ inv.agree
           (λ l.
-          ⊎_elim (λ same. same_bits w32 _ _ (record { sfits = same.1.given }) (record { sfits = same.2.given }) same.3.left)
-          (λ past. absurd (omega arith)) c.if-at-width.branch) k (omega arith);
+          elim c.if-at-width.branch [
+            | then-at-width+else-keys-base w ↦ same_bits w32 _ _ (search rules) (search rules) w.if-keys-base.false
+            | else-at-width w ↦ absurd (omega arith)
+          ]) k (omega arith);
     }
 
 pub returns : goal.returns
@@ -63,4 +57,4 @@ returns c =
     row_is _ _ _ _ (pos 0) pre.2 (omega (arith, pre.0, pre.1)) (λ i l. inv.agree i (omega (arith, inv.left, c.loop-i-test.false)) l)
 
 pub overflow_add-at : goal.overflow_add-at
-overflow_add-at c = omega ( arith, c.loop-i.invariant.few, )
+overflow_add-at c = omega (arith, c.loop-i.invariant.few)

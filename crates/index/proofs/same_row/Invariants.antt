@@ -1,16 +1,8 @@
-use mathlib.Core.Path.{◌≡◌, ap}
-use mathlib.Core.Logic.{⊎_elim}
+use mathlib.Core.Path.{◌≡◌}
 use mathlib.Core.List.{List}
-use mir.Syntax.{w32}
-use mir.Val.{of_z}
 use Prim.Native.Nat.{ℕ, ◌+◌, ◌-◌, ◌≤◌, ◌<◌}
-use native.Mathlib.Omega.{arith}
-use borrow.Author.Rules.{rules}
-use borrow.Author.Count.{below_more}
 use lib.ListN.{get_or}
 use lib.IntN.{ℤ, pos}
-use Rattle.theory.specs.Numbers.Bits.{same_bits}
-use Rattle.index.specs.Rows.{row_is, row_cells_lem}
 use Rattle.index.proofs.same_row.Given as goal
 
 -- at most four cells are left from `from` on, and those before from + i agree

@@ -1,12 +1,12 @@
 -- `index::store_row` meets its contract. The invariant: the key's first i cells are stored. The measure is width less i.
-use mathlib.Core.Path.{◌≡◌, refl}
-use Prim.Native.Nat.{◌*◌, ◌-◌, ◌≤◌}
+use mathlib.Core.Path.{refl}
+use Prim.Native.Nat.{◌*◌}
 use native.Mathlib.Nat.{le_antisymm}
 use native.Mathlib.Numerals.{add-one}
 use native.Mathlib.Omega.{arith}
 use borrow.Author.Rules.{rules}
-use lib.ListN.{length, get_or, length-set}
-use lib.Seq.{paste, paste-zero, paste-suc}
+use lib.ListN.{get_or, length-set}
+use lib.Seq.{paste-zero, paste-suc}
 use lib.IntN.{pos}
 use Rattle.theory.specs.Numbers.Bits.{read}
 use Rattle.index.proofs.store_row.Goals as goal

@@ -1,13 +1,7 @@
-use mathlib.Core.Path.{◌≡◌, refl}
-use Prim.Native.Nat.{◌*◌, ◌-◌, ◌≤◌}
-use native.Mathlib.Nat.{le_antisymm}
-use native.Mathlib.Numerals.{add-one}
-use native.Mathlib.Omega.{arith}
-use borrow.Author.Rules.{rules}
-use lib.ListN.{length, get_or, length-set}
-use lib.Seq.{paste, paste-zero, paste-suc}
-use lib.IntN.{pos}
-use Rattle.theory.specs.Numbers.Bits.{read}
+use mathlib.Core.Path.{◌≡◌}
+use Prim.Native.Nat.{◌-◌, ◌≤◌}
+use lib.ListN.{length}
+use lib.Seq.{paste}
 use Rattle.index.proofs.store_row.Given as goal
 
 abbrev pub invariant-loop-i : goal.invariant-loop-i

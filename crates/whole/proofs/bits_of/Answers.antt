@@ -14,6 +14,7 @@ use Rattle.whole.proofs.bits_of.Goals as goal
 module _ (z : ℤ) (f : SFits w32 z) (t : lt_z z (pos 0) ≡ true) where
   bits_fit : SFits w64 (pos (of_z w32 z))
   bits_fit = record { sfits = omega (arith, (of_z_fits w32 z f).fits) }
+
   summed : to_z w64 (of_z w64 (to_z w32 (of_z w32 z))) +ℤ pos 4294967296 ≡ pos (of_z w32 z)
   summed = rw (widened z f) (bits_below z f t)
 

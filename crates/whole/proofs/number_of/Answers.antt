@@ -2,7 +2,6 @@
 use mir.Syntax.{w32, w64}
 use mir.Val.{SFits, to_z}
 use mir.ValLaws.{to_z-of_z}
-use borrow.Author.Rules.{rules}
 use Rattle.theory.specs.Numbers.Bits.{fits_64}
 use Rattle.whole.proofs.TwosComplement.{below_zero, fits_32}
 use Rattle.whole.proofs.number_of.Goals as goal

@@ -3,7 +3,6 @@ use mathlib.Core.Path.{◌≡◌}
 use mathlib.Core.List.{List, [], ◌∷◌}
 use Prim.Native.Nat.{ℕ, suc, ◌+◌, ◌/◌, ◌%◌}
 use native.Mathlib.Omega.{arith}
-use borrow.Author.Rules.{rules}
 use lib.ListN.{set, length-set}
 use lib.Seq.{sets}
 use mir.Syntax.{w32}
