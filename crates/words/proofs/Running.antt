@@ -1,13 +1,18 @@
 -- The answers of running, by the first check that fails.
-use Prim.Native.Nat.{ℕ}
-use mathlib.Core.Path.{◌≡◌}
+use Prim.Native.Nat.{ℕ, ◌^◌}
+use mathlib.Core.Path.{◌≡◌, ap, ◌∙◌}
+use lib.Dec.{ltb}
 use mathlib.Core.Bool.{Bool, true, false}
 use mathlib.Core.List.{List}
 use Rattle.scope.specs.declared.TruthAnswer.{TruthAnswer}
+use Rattle.scope.specs.Whole.{all}
 use Rattle.scope.specs.Sizes.{variables_fit}
 use Rattle.scope.specs.Refusals.{BEYOND_LIMIT, LETTER, TABLE, refusal, first_refusal}
 use Rattle.scope.specs.Words.{Word, letters_fit}
 use Rattle.scope.specs.Running.{table_fits, says_yes, truth_of, ran}
+
+pub letters_tested : {b : Bool} {limit : ℕ} (n : ℕ) (w : Word) → b ≡ all (λ (letter : ℕ). ltb letter limit) w → limit ≡ 2 ^ n → b ≡ letters_fit n w
+letters_tested n w e f = e ∙ ap (λ (limit : ℕ). all (λ (letter : ℕ). ltb letter limit) w) f
 
 module _ (n : ℕ) (cells : List ℕ) (w : Word) where
   pub ran_no_variables : variables_fit n ≡ false → ran n cells w ≡ TruthAnswer.Refused (refusal BEYOND_LIMIT 0)

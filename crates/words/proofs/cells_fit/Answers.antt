@@ -1,13 +1,11 @@
 -- `words::cells_fit` meets its contract. The invariant: the column is the cell's, and the cells from c on fit exactly if all do. Assumes nothing.
-use Prim.Native.Nat.{ℕ, ◌+◌, ◌-◌, ◌%◌, ◌≤◌}
+use Prim.Native.Nat.{ℕ, ◌+◌, ◌%◌}
 use native.Mathlib.Nat.{mod-add-mod, mod-lt, mod-eq_of_lt}
 use native.Mathlib.Omega.{arith}
 use mathlib.Core.Path.{◌≡◌, refl, sym, ap, ◌∙◌}
 use mathlib.Core.Bool.{cond}
-use lib.ListN.{length, get_or, drop}
+use lib.ListN.{get_or}
 use lib.Dec.{leb, ltb, eqb}
-use borrow.Author.Rules.{rules}
-use Rattle.scope.specs.Whole.{all_from}
 use Rattle.scope.specs.Running.{cell_fits}
 use Rattle.theory.specs.Numbers.Tests.{failed, passed, all_from_more, all_from_fails, all_from_done}
 use Rattle.words.proofs.cells_fit.Goals as goal

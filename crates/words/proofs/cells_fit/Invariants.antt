@@ -1,14 +1,8 @@
-use Prim.Native.Nat.{ℕ, ◌+◌, ◌-◌, ◌%◌, ◌≤◌}
-use native.Mathlib.Nat.{mod-add-mod, mod-lt, mod-eq_of_lt}
-use native.Mathlib.Omega.{arith}
-use mathlib.Core.Path.{◌≡◌, refl, sym, ap, ◌∙◌}
-use mathlib.Core.Bool.{cond}
-use lib.ListN.{length, get_or, drop}
-use lib.Dec.{leb, ltb, eqb}
-use borrow.Author.Rules.{rules}
+use Prim.Native.Nat.{◌-◌, ◌%◌, ◌≤◌}
+use mathlib.Core.Path.{◌≡◌}
+use lib.ListN.{length, drop}
 use Rattle.scope.specs.Whole.{all_from}
 use Rattle.scope.specs.Running.{cell_fits}
-use Rattle.theory.specs.Numbers.Tests.{failed, passed, all_from_more, all_from_fails, all_from_done}
 use Rattle.words.proofs.cells_fit.Given as goal
 
 abbrev pub invariant-loop-c : goal.invariant-loop-c

@@ -3,7 +3,6 @@ use Prim.Native.Nat.{ℕ, ◌+◌, ◌%◌, ◌<◌}
 use native.Mathlib.Nat.{mod_self, mod-eq_of_lt}
 use native.Mathlib.Omega.{arith}
 use mathlib.Core.Path.{sym, ap, ◌∙◌}
-use borrow.Author.Rules.{rules}
 use Rattle.words.proofs.column_after.Goals as goal
 
 pub returns-then-column-width : goal.returns-then-column-width

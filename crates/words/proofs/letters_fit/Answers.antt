@@ -1,12 +1,7 @@
 -- `words::letters_fit` meets its contract. The invariant: the letters from i on fit exactly if all do. Assumes nothing.
-use Prim.Native.Nat.{ℕ, ◌-◌, ◌≤◌}
 use native.Mathlib.Omega.{arith}
-use mathlib.Core.Path.{◌≡◌, sym, ◌∙◌}
-use lib.ListN.{length, drop}
-use lib.Dec.{ltb}
-use borrow.Author.Rules.{rules}
+use mathlib.Core.Path.{sym, ◌∙◌}
 use borrow.Author.Tests.{lt-ltb, le-ltb}
-use Rattle.scope.specs.Whole.{all}
 use Rattle.theory.specs.Numbers.Tests.{all_more, all_fails, all_done}
 use Rattle.words.proofs.letters_fit.Goals as goal
 

@@ -1,12 +1,8 @@
 use Prim.Native.Nat.{ℕ, ◌-◌, ◌≤◌}
-use native.Mathlib.Omega.{arith}
-use mathlib.Core.Path.{◌≡◌, sym, ◌∙◌}
+use mathlib.Core.Path.{◌≡◌}
 use lib.ListN.{length, drop}
 use lib.Dec.{ltb}
-use borrow.Author.Rules.{rules}
-use borrow.Author.Tests.{lt-ltb, le-ltb}
 use Rattle.scope.specs.Whole.{all}
-use Rattle.theory.specs.Numbers.Tests.{all_more, all_fails, all_done}
 use Rattle.words.proofs.letters_fit.Given as goal
 
 abbrev pub invariant-loop-i : goal.invariant-loop-i

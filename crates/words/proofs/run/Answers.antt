@@ -1,17 +1,14 @@
 -- `words::run` meets its contract: each answer is that of the first check that fails. Assumes nothing.
-use Prim.Native.Nat.{ℕ, ◌≤◌}
-use mathlib.Core.Path.{◌≡◌, sym, ap, ◌∙◌}
+use Prim.Native.Nat.{◌≤◌}
+use mathlib.Core.Path.{◌≡◌, sym, ◌∙◌}
 use mathlib.Core.Bool.{true, false}
-use lib.Dec.{ltb}
-use borrow.Author.Rules.{rules}
-use Rattle.scope.specs.Whole.{all}
 use Rattle.scope.specs.Sizes.{variables_fit}
 use Rattle.scope.specs.Words.{letters_fit}
 use Rattle.scope.specs.Running.{table_fits}
 use Rattle.theory.specs.Numbers.Tests.{failed, passed, from_one}
-use Rattle.words.proofs.Running.{ran_no_variables, ran_no_table, ran_no_letter, ran_truth}
+use Rattle.words.proofs.Running.{letters_tested, ran_no_variables, ran_no_table, ran_no_letter, ran_truth}
 use Rattle.words.proofs.run.Goals as goal
-use Rattle.words.proofs.run.Goals.{After-letters_fit, Else-not-letters_fit, Else-not-table_fits, Else-not-within}
+use Rattle.words.proofs.run.Goals.{Else-not-letters_fit, Else-not-table_fits, Else-not-within}
 
 -- ---- what has passed, by place
 n_fits : (c : goal.Else-not-within) → variables_fit c.args.n ≡ true
@@ -23,13 +20,8 @@ n_small c = (from_one c.args.n 6 (n_fits c)).1
 table_passes : (c : goal.Else-not-table_fits) → table_fits c.args.n c.args.cells.now ≡ true
 table_passes c = passed c.table_fits.ensures c.if-not-table_fits.false-raw
 
-letters_tested : (c : goal.After-letters_fit) → c.letters_fit.result ≡ letters_fit c.args.n c.args.word.now
-letters_tested c =
-    c.letters_fit.ensures ∙
-    ap (λ (limit : ℕ). all (λ (letter : ℕ). ltb letter limit) c.args.word.now) c.letters.ensures.0
-
 letters_pass : (c : goal.Else-not-letters_fit) → letters_fit c.args.n c.args.word.now ≡ true
-letters_pass c = passed (letters_tested ⚠(c at After-letters_fit)) c.if-not-letters_fit.false-raw
+letters_pass c = passed (letters_tested _ _ c.letters_fit.ensures c.letters.ensures.0) c.if-not-letters_fit.false-raw
 
 -- ---- the answers
 pub returns-then-not-within : goal.returns-then-not-within
@@ -43,7 +35,7 @@ returns-then-not-table_fits c =
 pub returns-then-not-letters_fit : goal.returns-then-not-letters_fit
 returns-then-not-letters_fit c =
     c.run_refused-then-not-letters_fit.ensures ∙
-    sym (ran_no_letter _ _ _ (n_fits (goal.at.returns-then-not-letters_fit c).Else-not-within) (table_passes (goal.at.returns-then-not-letters_fit c).Else-not-table_fits) (failed (letters_tested (goal.at.returns-then-not-letters_fit c).After-letters_fit) c.if-not-letters_fit.true-raw))
+    sym (ran_no_letter _ _ _ (n_fits (goal.at.returns-then-not-letters_fit c).Else-not-within) (table_passes (goal.at.returns-then-not-letters_fit c).Else-not-table_fits) (failed (letters_tested _ _ c.letters_fit.ensures c.letters.ensures.0) c.if-not-letters_fit.true-raw))
 
 pub says_yes-requires : goal.says_yes-requires
 says_yes-requires c =

@@ -1,10 +1,9 @@
 -- `words::says_yes` meets its contract. The invariant: the row is one of the table's, and the letters from i on lead from it where the word leads. Assumes nothing.
-use Prim.Native.Nat.{◌+◌, ◌*◌, ◌-◌, ◌≤◌, ◌<◌}
+use Prim.Native.Nat.{◌+◌, ◌*◌, ◌<◌}
 use native.Mathlib.Omega.{arith}
 use mathlib.Core.Path.{◌≡◌, refl, sym, ◌∙◌}
-use lib.ListN.{length, get_or, drop}
+use lib.ListN.{length, get_or}
 use lib.Dec.{eqb}
-use borrow.Author.Rules.{rules}
 use Rattle.scope.specs.Running.{table_rows, row_after, says_yes}
 use Rattle.words.proofs.Tables.{TableWalk, walk, accept_within, next_within, next_row, row_step, row_last}
 use Rattle.words.proofs.says_yes.Goals as goal
@@ -19,7 +18,7 @@ at_loop c = walk c.requires c.table_width-width.ensures
 inside :
     (c : goal.In-loop-i) →
     c.loop-i.row * c.table_width-width.result + 1 + get_or c.args.word.now c.loop-i.i 0 < length c.args.cells.now
-inside c = next_within (at_loop ⚠(c at At-loop-i)) c.loop-i.row c.loop-i.invariant.1 c.loop-i.i c.loop-i-test.true
+inside c = next_within (walk c.requires c.table_width-width.ensures) c.loop-i.row c.loop-i.invariant.1 c.loop-i.i c.loop-i-test.true
 
 pub loop-i-init : goal.loop-i-init
 loop-i-init c = (omega arith, (walk c.requires c.table_width-width.ensures).first, refl)

@@ -1,11 +1,7 @@
-use Prim.Native.Nat.{◌+◌, ◌*◌, ◌-◌, ◌≤◌, ◌<◌}
-use native.Mathlib.Omega.{arith}
-use mathlib.Core.Path.{◌≡◌, refl, sym, ◌∙◌}
-use lib.ListN.{length, get_or, drop}
-use lib.Dec.{eqb}
-use borrow.Author.Rules.{rules}
-use Rattle.scope.specs.Running.{table_rows, row_after, says_yes}
-use Rattle.words.proofs.Tables.{TableWalk, walk, accept_within, next_within, next_row, row_step, row_last}
+use Prim.Native.Nat.{◌-◌, ◌≤◌, ◌<◌}
+use mathlib.Core.Path.{◌≡◌}
+use lib.ListN.{length, drop}
+use Rattle.scope.specs.Running.{table_rows, row_after}
 use Rattle.words.proofs.says_yes.Given as goal
 
 abbrev pub invariant-loop-i : goal.invariant-loop-i

@@ -1,19 +1,17 @@
 -- `words::spell` meets its contract: each answer is that of the first check that fails. Assumes nothing.
-use Prim.Native.Nat.{ℕ}
 use native.Mathlib.Omega.{arith}
 use mathlib.Core.Path.{◌≡◌, sym, ap, ◌∙◌}
 use mathlib.Core.Bool.{true, ◌&&◌}
-use lib.Dec.{leb, ltb}
-use borrow.Author.Rules.{rules}
+use lib.Dec.{leb}
 use borrow.Author.Tests.{le-leb, lt-leb}
 use Rattle.scope.specs.declared.SpellAnswer.{SpellAnswer}
-use Rattle.scope.specs.Whole.{all}
 use Rattle.scope.specs.Sizes.{variables_fit}
 use Rattle.scope.specs.Words.{letters_fit}
 use Rattle.theory.specs.Numbers.Tests.{failed, passed, from_one}
+use Rattle.words.proofs.Running.{letters_tested}
 use Rattle.words.proofs.Spelling.{spelt_no_variables, spelt_no_variable, spelt_no_letter, spelt_long, spelt_value}
 use Rattle.words.proofs.spell.Goals as goal
-use Rattle.words.proofs.spell.Goals.{After-letters_fit, Else-not-letters_fit, Else-not-within, Else-not-within-2}
+use Rattle.words.proofs.spell.Goals.{Else-not-letters_fit, Else-not-within, Else-not-within-2}
 
 -- ---- what has passed, by place
 n_fits : (c : goal.Else-not-within) → variables_fit c.args.n ≡ true
@@ -22,13 +20,8 @@ n_fits c = passed c.within.ensures c.if-not-within.false-raw
 variable_fits : (c : goal.Else-not-within-2) → leb 1 c.args.variable && leb c.args.variable c.args.n ≡ true
 variable_fits c = passed c.within-2.ensures c.if-not-within-2.false-raw
 
-fits_tested : (c : goal.After-letters_fit) → c.letters_fit.result ≡ letters_fit c.args.n c.args.word.now
-fits_tested c =
-    c.letters_fit.ensures ∙
-    ap (λ (limit : ℕ). all (λ (letter : ℕ). ltb letter limit) c.args.word.now) c.letters.ensures.0
-
 letters_pass : (c : goal.Else-not-letters_fit) → letters_fit c.args.n c.args.word.now ≡ true
-letters_pass c = passed (fits_tested ⚠(c at After-letters_fit)) c.if-not-letters_fit.false-raw
+letters_pass c = passed (letters_tested _ _ c.letters_fit.ensures c.letters.ensures.0) c.if-not-letters_fit.false-raw
 
 -- ---- the answers
 pub returns-then-not-within : goal.returns-then-not-within
@@ -45,7 +38,7 @@ letters-requires c = (from_one _ _ (n_fits (goal.at.letters-requires c).Else-not
 pub returns-then-not-letters_fit : goal.returns-then-not-letters_fit
 returns-then-not-letters_fit c =
     c.spell_refused-then-not-letters_fit.ensures ∙
-    sym (spelt_no_letter _ _ _ (n_fits (goal.at.returns-then-not-letters_fit c).Else-not-within) (variable_fits (goal.at.returns-then-not-letters_fit c).Else-not-within-2) (failed (fits_tested (goal.at.returns-then-not-letters_fit c).After-letters_fit) c.if-not-letters_fit.true-raw))
+    sym (spelt_no_letter _ _ _ (n_fits (goal.at.returns-then-not-letters_fit c).Else-not-within) (variable_fits (goal.at.returns-then-not-letters_fit c).Else-not-within-2) (failed (letters_tested _ _ c.letters_fit.ensures c.letters.ensures.0) c.if-not-letters_fit.true-raw))
 
 pub returns-then-word-gt-SPELLED : goal.returns-then-word-gt-SPELLED
 returns-then-word-gt-SPELLED c =

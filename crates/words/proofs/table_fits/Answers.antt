@@ -1,6 +1,5 @@
 -- `words::table_fits_lem` meets its contract. Assumes nothing.
 use mathlib.Core.Path.{sym, ◌∙◌}
-use borrow.Author.Rules.{rules}
 use Rattle.theory.specs.Numbers.Tests.{failed, passed}
 use Rattle.words.proofs.Tables.{table_ragged, table_miscounted, table_counted}
 use Rattle.words.proofs.table_fits.Goals as goal

@@ -1,6 +1,5 @@
 -- `words::table_width` meets its contract. Assumes nothing.
 use native.Mathlib.Omega.{arith}
-use borrow.Author.Rules.{rules}
 use Rattle.words.proofs.table_width.Goals as goal
 
 pub overflow_add-result : goal.overflow_add-result

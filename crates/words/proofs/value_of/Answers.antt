@@ -5,7 +5,6 @@ use mathlib.Core.Path.{◌≡◌, ap, ◌∙◌}
 use mathlib.Core.List.{List}
 use lib.ListN.{length, get_or, drop}
 use lib.Seq.{drop-length}
-use borrow.Author.Rules.{rules}
 use Rattle.scope.specs.Words.{digit, value, value_from}
 use Rattle.words.proofs.Values.{value_at_lem, value_fits}
 use Rattle.words.proofs.value_of.Goals as goal
@@ -26,6 +25,7 @@ module _ (c : goal.After-shared_slice_known-1) where
   next : 2 * c.loop-i.v + digit (get_or c.args.word.now (c.loop-i.i - 1) 0) c.args.j ≡ value (drop (c.loop-i.i - 1) c.args.word.now) c.args.j
   next =
       more c.args.word.now c.loop-i.i c.args.j c.loop-i.v (omega arith) c.loop-i.invariant.0 c.loop-i.invariant.1
+
   next_fits : value (drop (c.loop-i.i - 1) c.args.word.now) c.args.j < 2 ^ 64
   next_fits = value_fits c.args.word.now (c.loop-i.i - 1) c.args.j c.requires.1
 
