@@ -1,5 +1,4 @@
 -- `formula::both` meets its contract: bit by bit.
-use borrow.Author.Rules.{rules}
 use Rattle.formula.proofs.Words.{both_words}
 use Rattle.formula.proofs.both.Goals as goal
 

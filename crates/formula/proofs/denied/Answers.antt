@@ -1,5 +1,4 @@
 -- `formula::denied` meets its contract: bit by bit.
-use borrow.Author.Rules.{rules}
 use Rattle.formula.proofs.Words.{denied_words}
 use Rattle.formula.proofs.denied.Goals as goal
 

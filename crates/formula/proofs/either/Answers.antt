@@ -1,5 +1,4 @@
 -- `formula::either` meets its contract: bit by bit.
-use borrow.Author.Rules.{rules}
 use Rattle.formula.proofs.Words.{either_words}
 use Rattle.formula.proofs.either.Goals as goal
 

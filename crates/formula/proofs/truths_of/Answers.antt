@@ -1,6 +1,5 @@
 -- `formula::truths_of` meets its contract: the formula is the part at the first node, 16 deep. Assumes nothing.
 use mathlib.Core.Path.{sym, ap}
-use borrow.Author.Rules.{rules}
 use Rattle.scope.specs.States.{Settled, formula_worth}
 use Rattle.formula.proofs.truths_of.Goals as goal
 
