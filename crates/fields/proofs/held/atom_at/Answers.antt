@@ -1,7 +1,5 @@
 -- `fields::held::atom_at` meets its contract: the row, and then the constant; the first beyond its limit is refused.
 use borrow.Author.Rules.{rules}
-use borrow.Author.Tests.{not-true, not-false}
-use native.Mathlib.Omega.{arith}
 use mathlib.Core.Path.{◌≡◌, sym, ◌∙◌}
 use mathlib.Core.Bool.{Bool, true, false}
 use lib.IntN.{pos}
@@ -16,25 +14,13 @@ use Rattle.fields.proofs.Answered.{held_coefficient_beyond, held_constant_beyond
 use Rattle.fields.proofs.held.atom_at.Goals as goal
 use Rattle.fields.proofs.held.atom_at.Goals.{After-constant_fits, After-row_fits}
 
-pub overflow_mul-atom : goal.overflow_mul-atom
-overflow_mul-atom c = omega (arith, c.requires.few)
-
-pub row_fits-requires : goal.row_fits-requires
-row_fits-requires c = omega (arith, c.requires.variables, c.requires.few, c.requires.coefficients_full)
-
-pub offset_bounds-constants-atom : goal.offset_bounds-constants-atom
-offset_bounds-constants-atom c = omega (arith, c.requires.few)
-
-pub bounds-constants-atom : goal.bounds-constants-atom
-bounds-constants-atom c = omega (arith, c.requires.few, c.requires.constants_full)
-
 row_is : (c : goal.After-row_fits) (t : Bool) → c.row_fits.result ≡ t → all coefficient_fits (take c.args.n (drop (most_variables * c.args.atom) c.args.coefficients.now)) ≡ t
 row_is c t e = sym c.row_fits.ensures ∙ e
 
 constant_is : (c : goal.After-constant_fits) (t : Bool) → c.constant_fits.result ≡ t → constant_fits (get_or c.args.constants.now c.args.atom (pos 0)) ≡ t
 constant_is c t e =
     let z = get_or c.args.constants.now c.args.atom (pos 0) in
-    sym (simp (to_z-of_z w32 z (record { sfits = c.constant_fits-arg-1.given })) at c.constant_fits.ensures) ∙ e
+    sym (simp (to_z-of_z w32 z (record { sfits = search rules })) at c.constant_fits.ensures) ∙ e
 
 pub returns-then-not-row_fits : goal.returns-then-not-row_fits
 returns-then-not-row_fits c =

@@ -2,14 +2,13 @@
 use borrow.Author.Rules.{rules}
 use mathlib.Core.Path.{◌≡◌, sym, ◌∙◌}
 use mathlib.Core.Bool.{Bool, true, false}
-use Prim.Native.Nat.{◌-◌, ◌+◌, ◌≤◌}
+use Prim.Native.Nat.{◌+◌, ◌≤◌}
 use lib.IntN.{pos}
 use lib.ListN.{length, get_or}
 use mir.Syntax.{w32}
 use mir.ValLaws.{to_z-of_z}
-use borrow.Author.Tests.{not-true, not-false}
 use Rattle.scope.specs.Sizes.{coefficient_fits}
-use Rattle.fields.proofs.Rows.{RowFrom, row_start, row_again, row_not, row_whole}
+use Rattle.fields.proofs.Rows.{row_start, row_again, row_not, row_whole}
 use Rattle.fields.proofs.held.row_fits.Goals as goal
 use Rattle.fields.proofs.held.row_fits.Goals.{After-coefficient_fits, Start}
 
@@ -19,7 +18,7 @@ within c = c.requires
 fits : (c : goal.After-coefficient_fits) (t : Bool) → c.coefficient_fits.result ≡ t → coefficient_fits (get_or c.args.coefficients.now (c.args.cell + c.loop-i.i) (pos 0)) ≡ t
 fits c t e =
     let z = get_or c.args.coefficients.now (c.args.cell + c.loop-i.i) (pos 0) in
-    simp (to_z-of_z w32 z (record { sfits = c.coefficient_fits-arg-1.given })) at (sym c.coefficient_fits.ensures) ∙ e
+    simp (to_z-of_z w32 z (record { sfits = search rules })) at (sym c.coefficient_fits.ensures) ∙ e
 
 pub loop-i-init : goal.loop-i-init
 loop-i-init c = row_start coefficient_fits c.args.coefficients.now c.args.cell c.args.n

@@ -1,6 +1,4 @@
 -- `fields::taking::take_atom` meets its contract: the row, and then the constant; the first beyond its limit is refused.
-use borrow.Author.Rules.{rules}
-use native.Mathlib.Omega.{arith}
 use mathlib.Core.Path.{◌≡◌, sym, ap, ◌∙◌}
 use mathlib.Core.Bool.{Bool, true, false}
 use Prim.Native.Nat.{◌+◌, ◌*◌}
@@ -16,39 +14,6 @@ use Rattle.fields.proofs.taking.take_atom.Goals.{After-number_at-constant}
 
 constant : (c : goal.After-number_at-constant) → to_z w32 (of_z w32 c.number_at-constant.result) ≡ number_at c.args.bytes.now (c.args.at + 4 + 4 * c.args.n)
 constant c = to_z-of_z w32 _ (record { sfits = c.number_at-constant.type_inv }) ∙ c.number_at-constant.ensures
-
-pub overflow_add-start : goal.overflow_add-start
-overflow_add-start c = omega (arith, c.requires.1, c.well_formed.0)
-
-pub overflow_mul-n : goal.overflow_mul-n
-overflow_mul-n c = omega (arith, c.requires.0.variables)
-
-pub overflow_add-start-2 : goal.overflow_add-start-2
-overflow_add-start-2 c = omega (arith, c.requires.1, c.well_formed.0)
-
-pub number_at-constant-requires : goal.number_at-constant-requires
-number_at-constant-requires c = omega (arith, c.requires.1)
-
-pub offset_bounds-constants-atom : goal.offset_bounds-constants-atom
-offset_bounds-constants-atom c = omega (arith, c.requires.0.few)
-
-pub bounds-constants-atom : goal.bounds-constants-atom
-bounds-constants-atom c = omega (arith, c.requires.0.few, c.requires.0.constants_full)
-
-pub overflow_mul-atom : goal.overflow_mul-atom
-overflow_mul-atom c = omega (arith, c.requires.0.few)
-
-pub take_row-fitting-requires : goal.take_row-fitting-requires
-take_row-fitting-requires c =
-    let p = c.requires in
-    (omega (arith, p.1), omega (arith, p.0.variables, p.0.few, p.0.coefficients_full))
-
-pub overflow_mul-fitting : goal.overflow_mul-fitting
-overflow_mul-fitting c = omega (arith, c.if-fitting-n.true, c.requires.0.variables)
-
-pub overflow_add-start-then-fitting-n : goal.overflow_add-start-then-fitting-n
-overflow_add-start-then-fitting-n c =
-    omega (arith, c.if-fitting-n.true, c.requires.1, c.well_formed.0)
 
 -- the row that was taken, and the constant that was put
 module _ (c : goal.After-number_at-constant) where
@@ -66,13 +31,6 @@ constant_is c v t r e = ap constant_fits (sym (constant c)) ∙ sym r ∙ e
 pub returns-then-constant_fits : goal.returns-then-constant_fits
 returns-then-constant_fits c =
     atom_taken c.args.bytes.now (c.args.at + 4) c.args.n c.args.code c.args.atom _ c.args.coefficients.now c.args.constants.now _ _ c.take_row-fitting.ensures (put (goal.at.returns-then-constant_fits c).After-number_at-constant) c.if-fitting-n.false (constant_is (goal.at.returns-then-constant_fits c).After-number_at-constant _ true c.constant_fits.ensures c.if-constant_fits.true)
-
-pub overflow_mul-n-2 : goal.overflow_mul-n-2
-overflow_mul-n-2 c = omega (arith, c.requires.0.variables)
-
-pub overflow_add-start-3 : goal.overflow_add-start-3
-overflow_add-start-3 c =
-    omega (arith, c.requires.1, c.well_formed.0)
 
 pub returns : goal.returns
 returns c =

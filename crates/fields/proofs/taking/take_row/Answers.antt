@@ -1,15 +1,13 @@
 -- `fields::taking::take_row` meets its contract: what is still to be taken leads to the whole.
-use borrow.Author.Rules.{rules}
 use mathlib.Core.Path.{◌≡◌, sym, ap, ◌∙◌}
 use mathlib.Core.Bool.{Bool, true, false}
-use Prim.Native.Nat.{◌-◌, ◌+◌, ◌*◌}
+use Prim.Native.Nat.{◌+◌, ◌*◌}
 use mir.Syntax.{w32}
 use mir.Val.{to_z, of_z}
 use mir.ValLaws.{to_z-of_z}
-use borrow.Author.Tests.{not-true, not-false}
 use Rattle.scope.specs.Sizes.{coefficient_fits}
 use Rattle.scope.specs.Wire.{number_at}
-use Rattle.fields.proofs.Bodies.{TakenFrom, taken_start, taken_again, taken_not, taken_whole}
+use Rattle.fields.proofs.Bodies.{taken_start, taken_again, taken_not, taken_whole}
 use Rattle.fields.proofs.taking.take_row.Goals as goal
 use Rattle.fields.proofs.taking.take_row.Goals.{After-number_at-number}
 
