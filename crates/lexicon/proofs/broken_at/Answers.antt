@@ -1,14 +1,12 @@
 -- `lexicon::broken_at` meets its contract. The invariant: the text is broken where it is from the index on, with this state and so many lists open.
 -- Assumes nothing.
-use Prim.Native.Nat.{◌-◌, ◌≤◌}
 use native.Mathlib.Omega.{arith}
 use mathlib.Core.Path.{◌≡◌, refl, sym, ap, ◌∙◌}
 use mathlib.Core.Bool.{Bool, cond, ◌&&◌}
 use mathlib.Core.Option.{none, some}
-use lib.ListN.{length, get_or, drop}
+use lib.ListN.{get_or}
 use lib.Dec.{eqb}
-use borrow.Author.Rules.{rules}
-use Rattle.smtlib.specs.Lexicon.{Move, move_of, most_nesting, broken_from, broken_at}
+use Rattle.smtlib.specs.Lexicon.{Move, move_of, broken_at}
 use Rattle.lexicon.specs.Codes.{state_named, named_after}
 use Rattle.lexicon.specs.Spots.{spot_of}
 use Rattle.lexicon.proofs.Depths.{then_broken, then_goes}

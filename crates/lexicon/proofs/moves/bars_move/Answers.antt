@@ -1,5 +1,4 @@
 -- `lexicon::moves::bars_move` meets its contract. Assumes nothing.
-use borrow.Author.Rules.{rules}
 use borrow.Author.Tests.{eq-eqb, ne_eqb}
 use mathlib.Core.Path.{sym, ◌∙◌}
 use mathlib.Core.Bool.{not, ◌&&◌}

@@ -1,5 +1,4 @@
 -- `lexicon::moves::bit_digit` meets its contract. Assumes nothing.
-use borrow.Author.Rules.{rules}
 use Rattle.smtlib.specs.Lexicon.{bit_digit}
 use Rattle.lexicon.proofs.moves.bit_digit.Goals as goal
 

@@ -1,5 +1,4 @@
 -- `lexicon::moves::comment_move` meets its contract. Assumes nothing.
-use borrow.Author.Rules.{rules}
 use Rattle.smtlib.specs.Lexicon.{move_of}
 use Rattle.lexicon.proofs.moves.comment_move.Goals as goal
 

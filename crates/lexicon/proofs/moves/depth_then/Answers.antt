@@ -1,7 +1,6 @@
 -- `lexicon::moves::depth_then` meets its contract, by the kind of the move. Assumes nothing.
 use native.Mathlib.Omega.{arith}
 use mathlib.Core.Path.{sym, ◌∙◌}
-use borrow.Author.Rules.{rules}
 use Rattle.lexicon.proofs.Depths.{then_stuck, then_opens, then_closes, then_closes_none, then_stays}
 use Rattle.lexicon.proofs.moves.depth_then.Goals as goal
 
@@ -19,5 +18,4 @@ returns-in-80 c m e = then_stuck m c.args.depth (sym c.in-80.is ∙ e)
 
 pub returns-in_default : goal.returns-in_default
 returns-in_default c m e =
-    let r = c.in_default.rest in
-    then_stays m c.args.depth (λ k. r.0.0.1 (e ∙ sym k)) (λ k. r.0.1 (e ∙ sym k)) (λ k. r.1 (e ∙ sym k))
+    then_stays m c.args.depth (λ k. omega arith) (λ k. omega arith) (λ k. omega arith)

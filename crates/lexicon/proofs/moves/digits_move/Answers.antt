@@ -1,5 +1,4 @@
 -- `lexicon::moves::digits_move` meets its contract. Assumes nothing.
-use borrow.Author.Rules.{rules}
 use mathlib.Core.Path.{sym, ◌∙◌}
 use lib.Dec.{eqb}
 use Rattle.smtlib.specs.Lexicon.{point, leaves_token, move_of}

@@ -1,6 +1,5 @@
 -- `lexicon::moves::fresh` meets its contract: what was tried in the code's order is what the definition says of each of the 256 bytes. Assumes nothing.
 use native.Mathlib.Omega.{arith}
-use borrow.Author.Rules.{rules}
 use borrow.Author.Tests.{eq-eqb, ne_eqb}
 use mathlib.Core.Path.{◌≡◌, sym, ◌∙◌}
 use mathlib.Core.Bool.{false}
@@ -65,18 +64,17 @@ returns-in-124 c = rw c.in-124.is
 pub returns-in_default : goal.returns-in_default
 unfolding fresh_tried
 returns-in_default c =
-    let r = c.in_default.rest in
     c.sign_or_stuck.ensures ∙
     (rw (
       no_letter (goal.at.returns-in_default c).Else-is_letter,
       no_white (goal.at.returns-in_default c).Else-white,
       sym c.is_digit.ensures ∙ c.if-is_digit.false,
-      ne_eqb _ _ r.0.0.0.0.0.0.1,
-      ne_eqb _ _ r.0.0.0.0.0.1,
-      ne_eqb _ _ r.0.0.0.0.1,
-      ne_eqb _ _ r.0.0.0.1,
-      ne_eqb _ _ r.0.0.1,
-      ne_eqb _ _ r.0.1,
-      ne_eqb _ _ r.1,
+      ne_eqb c.args.byte 40 (omega arith),
+      ne_eqb c.args.byte 41 (omega arith),
+      ne_eqb c.args.byte 59 (omega arith),
+      ne_eqb c.args.byte 35 (omega arith),
+      ne_eqb c.args.byte 58 (omega arith),
+      ne_eqb c.args.byte 34 (omega arith),
+      ne_eqb c.args.byte 124 (omega arith),
     )
     at (fresh_tried_lem c.args.byte (omega arith)))

@@ -1,5 +1,4 @@
 -- `lexicon::moves::hash_move` meets its contract. Assumes nothing.
-use borrow.Author.Rules.{rules}
 use borrow.Author.Tests.{eq-eqb, ne_eqb}
 use mathlib.Core.Path.{sym, ◌∙◌}
 use lib.Dec.{eqb}

@@ -1,5 +1,4 @@
 -- `lexicon::moves::hex_digit` meets its contract. Assumes nothing.
-use borrow.Author.Rules.{rules}
 use Rattle.smtlib.specs.Lexicon.{hex_digit}
 use Rattle.lexicon.proofs.moves.hex_digit.Goals as goal
 

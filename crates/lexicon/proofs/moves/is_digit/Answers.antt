@@ -1,5 +1,4 @@
 -- `lexicon::moves::is_digit` meets its contract. Assumes nothing.
-use borrow.Author.Rules.{rules}
 use Rattle.smtlib.specs.Lexicon.{is_digit}
 use Rattle.lexicon.proofs.moves.is_digit.Goals as goal
 

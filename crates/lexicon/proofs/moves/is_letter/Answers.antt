@@ -1,5 +1,4 @@
 -- `lexicon::moves::is_letter` meets its contract. Assumes nothing.
-use borrow.Author.Rules.{rules}
 use Rattle.smtlib.specs.Lexicon.{is_letter}
 use Rattle.lexicon.proofs.moves.is_letter.Goals as goal
 

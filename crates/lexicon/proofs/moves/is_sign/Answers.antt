@@ -1,6 +1,5 @@
 -- `lexicon::moves::is_sign` meets its contract: it is so at each of the 256 bytes. Assumes nothing.
 use native.Mathlib.Omega.{arith}
-use borrow.Author.Rules.{rules}
 use Rattle.lexicon.proofs.Bytes.{sign_tried, sign_tried_lem}
 use Rattle.lexicon.proofs.moves.is_sign.Goals as goal
 

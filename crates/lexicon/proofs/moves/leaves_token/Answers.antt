@@ -1,5 +1,5 @@
 -- `lexicon::moves::leaves_token` meets its contract, arm by arm. Assumes nothing.
-use borrow.Author.Rules.{rules}
+use native.Mathlib.Omega.{arith}
 use borrow.Author.Tests.{ne_eqb}
 use mathlib.Core.Path.{sym, ◌∙◌}
 use Rattle.smtlib.specs.Lexicon.{among, white, is_digit, fresh, leaves_token}
@@ -32,5 +32,4 @@ returns-in-124 c = rw c.in-124.is
 pub returns-in_default : goal.returns-in_default
 unfolding leaves_token among
 returns-in_default c =
-    let r = c.in_default.rest in
-    rw (sym c.white.ensures ∙ c.if-white.false, ne_eqb _ _ r.0.0.0.0.1, ne_eqb _ _ r.0.0.0.1, ne_eqb _ _ r.0.0.1, ne_eqb _ _ r.0.1, ne_eqb _ _ r.1)
+    rw (sym c.white.ensures ∙ c.if-white.false, ne_eqb c.args.byte 40 (omega arith), ne_eqb c.args.byte 41 (omega arith), ne_eqb c.args.byte 59 (omega arith), ne_eqb c.args.byte 34 (omega arith), ne_eqb c.args.byte 124 (omega arith))

@@ -1,5 +1,5 @@
 -- `lexicon::moves::move_of` meets its contract, state by state. Assumes nothing.
-use borrow.Author.Rules.{rules}
+use native.Mathlib.Omega.{arith}
 use borrow.Author.Tests.{ne_eqb}
 use mathlib.Core.Path.{sym, ◌∙◌}
 use lib.Dec.{eqb}
@@ -72,22 +72,21 @@ returns-in-14 c = rw c.in-14.is c.quote_move.ensures
 pub returns-in_default : goal.returns-in_default
 unfolding state_named
 returns-in_default c =
-    let r = c.in_default.rest in
     rw (
-      ne_eqb _ _ r.0.0.0.0.0.0.0.0.0.0.0.0.0.0.1,
-      ne_eqb _ _ r.0.0.0.0.0.0.0.0.0.0.0.0.0.1,
-      ne_eqb _ _ r.0.0.0.0.0.0.0.0.0.0.0.0.1,
-      ne_eqb _ _ r.0.0.0.0.0.0.0.0.0.0.0.1,
-      ne_eqb _ _ r.0.0.0.0.0.0.0.0.0.0.1,
-      ne_eqb _ _ r.0.0.0.0.0.0.0.0.0.1,
-      ne_eqb _ _ r.0.0.0.0.0.0.0.0.1,
-      ne_eqb _ _ r.0.0.0.0.0.0.0.1,
-      ne_eqb _ _ r.0.0.0.0.0.0.1,
-      ne_eqb _ _ r.0.0.0.0.0.1,
-      ne_eqb _ _ r.0.0.0.0.1,
-      ne_eqb _ _ r.0.0.0.1,
-      ne_eqb _ _ r.0.0.1,
-      ne_eqb _ _ r.0.1,
-      ne_eqb _ _ r.1,
+      ne_eqb c.args.state 0 (omega arith),
+      ne_eqb c.args.state 1 (omega arith),
+      ne_eqb c.args.state 2 (omega arith),
+      ne_eqb c.args.state 3 (omega arith),
+      ne_eqb c.args.state 4 (omega arith),
+      ne_eqb c.args.state 5 (omega arith),
+      ne_eqb c.args.state 6 (omega arith),
+      ne_eqb c.args.state 7 (omega arith),
+      ne_eqb c.args.state 8 (omega arith),
+      ne_eqb c.args.state 9 (omega arith),
+      ne_eqb c.args.state 10 (omega arith),
+      ne_eqb c.args.state 11 (omega arith),
+      ne_eqb c.args.state 12 (omega arith),
+      ne_eqb c.args.state 13 (omega arith),
+      ne_eqb c.args.state 14 (omega arith),
     )
     c.bars_move.ensures

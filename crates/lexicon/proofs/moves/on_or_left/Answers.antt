@@ -1,9 +1,8 @@
 -- `lexicon::moves::on_or_left` meets its contract. Assumes nothing.
-use borrow.Author.Rules.{rules}
 use Rattle.lexicon.proofs.moves.on_or_left.Goals as goal
 
-pub returns-then-goes_on_lem : goal.returns-then-goes_on_lem
-returns-then-goes_on_lem c = rw c.if-goes_on_lem.true
+pub returns-then-goes_on : goal.returns-then-goes_on
+returns-then-goes_on c = rw c.if-goes_on.true
 
 pub returns : goal.returns
-returns c = rw c.if-goes_on_lem.false c.leaves_token.ensures
+returns c = rw c.if-goes_on.false c.leaves_token.ensures

@@ -1,6 +1,5 @@
 -- `lexicon::moves::printable` meets its contract: it is so at each of the 256 bytes. Assumes nothing.
 use native.Mathlib.Omega.{arith}
-use borrow.Author.Rules.{rules}
 use Rattle.lexicon.proofs.Bytes.{printable_tried, printable_tried_lem}
 use Rattle.lexicon.proofs.moves.printable.Goals as goal
 

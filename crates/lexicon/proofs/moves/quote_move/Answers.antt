@@ -1,5 +1,4 @@
 -- `lexicon::moves::quote_move` meets its contract. Assumes nothing.
-use borrow.Author.Rules.{rules}
 use borrow.Author.Tests.{eq-eqb, ne_eqb}
 use Rattle.smtlib.specs.Lexicon.{move_of}
 use Rattle.lexicon.proofs.moves.quote_move.Goals as goal

@@ -1,5 +1,4 @@
 -- `lexicon::moves::sign_or_stuck` meets its contract. Assumes nothing.
-use borrow.Author.Rules.{rules}
 use mathlib.Core.Path.{sym, ◌∙◌}
 use Rattle.lexicon.proofs.moves.sign_or_stuck.Goals as goal
 

@@ -1,5 +1,4 @@
 -- `lexicon::moves::string_move` meets its contract. Assumes nothing.
-use borrow.Author.Rules.{rules}
 use borrow.Author.Tests.{eq-eqb, ne_eqb}
 use mathlib.Core.Path.{sym, ◌∙◌}
 use Rattle.smtlib.specs.Lexicon.{stuck, string, move_of}

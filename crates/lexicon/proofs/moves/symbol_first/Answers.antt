@@ -1,5 +1,4 @@
 -- `lexicon::moves::symbol_first` meets its contract. Assumes nothing.
-use borrow.Author.Rules.{rules}
 use Rattle.smtlib.specs.Lexicon.{symbol_first}
 use Rattle.lexicon.proofs.moves.symbol_first.Goals as goal
 

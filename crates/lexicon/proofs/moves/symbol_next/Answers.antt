@@ -1,5 +1,4 @@
 -- `lexicon::moves::symbol_next` meets its contract. Assumes nothing.
-use borrow.Author.Rules.{rules}
 use mathlib.Core.Path.{sym, ◌∙◌}
 use Rattle.smtlib.specs.Lexicon.{symbol_first, symbol_next}
 use Rattle.lexicon.proofs.moves.symbol_next.Goals as goal

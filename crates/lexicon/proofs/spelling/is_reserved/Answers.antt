@@ -1,7 +1,6 @@
 -- `lexicon::spelling::is_reserved` meets its contract, by the stretch's length. Assumes nothing.
 use Prim.Native.Nat.{◌-◌}
 use mathlib.Core.Path.{sym, ◌∙◌}
-use borrow.Author.Rules.{rules}
 use Rattle.smtlib.specs.Spelling.{is_in, reserved_words}
 use Rattle.lexicon.specs.Spots.{stretch}
 use Rattle.lexicon.proofs.Same.{part_length}
@@ -15,5 +14,5 @@ returns-then-count-eq0 c =
 
 pub returns : goal.returns
 returns c =
-    let size = part_length ⚠a.text.now ⚠a.from (⚠a.to - ⚠a.from) (stretch_inside ⚠s.requires.0 ⚠s.requires.1) in
-    c.spelt.ensures ∙ sym (reserved_last (stretch ⚠a.text.now ⚠a.from ⚠a.to) (rw size ⚠e.if4.false))
+    let size = part_length c.args.text.now c.args.from (c.args.to - c.args.from) (stretch_inside c.requires.0 c.requires.1) in
+    c.spelt.ensures ∙ sym (reserved_last (stretch c.args.text.now c.args.from c.args.to) (rw size c.if-count-le18.false))

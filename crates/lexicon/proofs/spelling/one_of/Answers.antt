@@ -1,11 +1,6 @@
 -- `lexicon::spelling::one_of` meets its contract. The invariant: it is one of the words exactly if it is one of those from the place on. Assumes nothing.
-use Prim.Native.Nat.{◌-◌, ◌≤◌}
 use native.Mathlib.Omega.{arith}
-use mathlib.Core.Path.{◌≡◌, refl, sym, ◌∙◌}
-use lib.ListN.{length, take, drop}
-use borrow.Author.Rules.{rules}
-use Rattle.smtlib.specs.Spelling.{is_in}
-use Rattle.lexicon.specs.Spots.{cut_every}
+use mathlib.Core.Path.{refl, sym, ◌∙◌}
 use Rattle.lexicon.proofs.Cuts.{in_cut, in_later, in_none}
 use Rattle.lexicon.proofs.spelling.one_of.Goals as goal
 

@@ -1,11 +1,8 @@
 use Prim.Native.Nat.{◌-◌, ◌≤◌}
-use native.Mathlib.Omega.{arith}
-use mathlib.Core.Path.{◌≡◌, refl, sym, ◌∙◌}
+use mathlib.Core.Path.{◌≡◌}
 use lib.ListN.{length, take, drop}
-use borrow.Author.Rules.{rules}
 use Rattle.smtlib.specs.Spelling.{is_in}
 use Rattle.lexicon.specs.Spots.{cut_every}
-use Rattle.lexicon.proofs.Cuts.{in_cut, in_later, in_none}
 use Rattle.lexicon.proofs.spelling.one_of.Given as goal
 
 abbrev pub invariant-loop-at : goal.invariant-loop-at

@@ -1,10 +1,6 @@
 -- `lexicon::spelling::same_bytes` meets its contract. The invariant: the bytes are the same exactly if those from the index on are. Assumes nothing.
-use Prim.Native.Nat.{◌-◌, ◌≤◌}
 use native.Mathlib.Omega.{arith}
-use mathlib.Core.Path.{◌≡◌, refl, sym, ◌∙◌}
-use lib.ListN.{take, drop}
-use borrow.Author.Rules.{rules}
-use Rattle.smtlib.specs.Spelling.{same}
+use mathlib.Core.Path.{refl, sym, ◌∙◌}
 use Rattle.lexicon.proofs.Same.{parts_more, parts_differ, parts_done}
 use Rattle.lexicon.proofs.spelling.same_bytes.Goals as goal
 

@@ -1,10 +1,7 @@
 use Prim.Native.Nat.{◌-◌, ◌≤◌}
-use native.Mathlib.Omega.{arith}
-use mathlib.Core.Path.{◌≡◌, refl, sym, ◌∙◌}
+use mathlib.Core.Path.{◌≡◌}
 use lib.ListN.{take, drop}
-use borrow.Author.Rules.{rules}
 use Rattle.smtlib.specs.Spelling.{same}
-use Rattle.lexicon.proofs.Same.{parts_more, parts_differ, parts_done}
 use Rattle.lexicon.proofs.spelling.same_bytes.Given as goal
 
 abbrev pub invariant-loop-i : goal.invariant-loop-i

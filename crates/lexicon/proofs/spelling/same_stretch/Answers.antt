@@ -3,7 +3,6 @@ use Prim.Native.Nat.{ℕ, ◌-◌, ◌+◌, ◌≤◌}
 use native.Mathlib.Omega.{arith}
 use mathlib.Core.Path.{sym, ap, ◌∙◌}
 use lib.ListN.{length, take, drop}
-use borrow.Author.Rules.{rules}
 use Rattle.smtlib.specs.Spelling.{same}
 use Rattle.lexicon.specs.Spots.{stretch}
 use Rattle.lexicon.proofs.Same.{unlike_lengths, part_length}
@@ -12,10 +11,10 @@ use Rattle.lexicon.proofs.spelling.same_stretch.Goals as goal
 pub returns-then-to-from : goal.returns-then-to-from
 returns-then-to-from c =
     let first : c.args.from + (c.args.to - c.args.from) ≤ length c.args.text.now = omega arith in
-    let second : c.args.other_from + (c.args.other-to - c.args.other_from) ≤ length c.args.text.now = omega arith in
+    let second : c.args.other_from + (c.args.other_to - c.args.other_from) ≤ length c.args.text.now = omega arith in
     sym
-    (unlike_lengths (stretch c.args.text.now c.args.from c.args.to) (stretch c.args.text.now c.args.other_from c.args.other-to)
-    (λ e. c.if-to-from.true (sym (part_length c.args.text.now c.args.from (c.args.to - c.args.from) first) ∙ e ∙ part_length c.args.text.now c.args.other_from (c.args.other-to - c.args.other_from) second)))
+    (unlike_lengths (stretch c.args.text.now c.args.from c.args.to) (stretch c.args.text.now c.args.other_from c.args.other_to)
+    (λ e. c.if-to-from.true (sym (part_length c.args.text.now c.args.from (c.args.to - c.args.from) first) ∙ e ∙ part_length c.args.text.now c.args.other_from (c.args.other_to - c.args.other_from) second)))
 
 pub returns : goal.returns
 returns c =

@@ -4,7 +4,6 @@ use native.Mathlib.Omega.{arith}
 use mathlib.Core.Path.{sym, ap, ◌∙◌}
 use lib.ListN.{length, take, drop}
 use lib.Seq.{take_all}
-use borrow.Author.Rules.{rules}
 use Rattle.smtlib.specs.Spelling.{same}
 use Rattle.lexicon.proofs.Same.{unlike_lengths, part_length}
 use Rattle.lexicon.proofs.spelling.spelt.Goals as goal
