@@ -246,5 +246,6 @@ pub fn tell(n: usize, answer: DecideAnswer, word: &[u8], out: &mut [u8]) -> usiz
     if out.len() < length {
         return 0;
     }
-    bytes::copy(&text[..length], out)
+    out[..length].copy_from_slice(&text[..length]);
+    length
 }
