@@ -9,7 +9,7 @@ use scope::Question;
 pub const DUE: usize = Question::NODES + 2;
 
 // Its nodes and atoms so far. The depths of the parts still due stand in an array of DUE from top on, the next one first.
-#[derive(Drop)]
+#[derive(Clone, Copy)]
 pub struct Shape {
     pub nodes: usize,
     pub atoms: usize,
