@@ -1,28 +1,15 @@
--- A name with its bars or without, and its length.
-use Prim.Native.Nat.{ℕ, zero, suc, ◌+◌, ◌*◌, ◌-◌, ◌≤◌, ◌<◌, min}
-use mathlib.Core.Path.{◌≡◌, refl, sym, ap, ◌∙◌}
-use mathlib.Core.Bool.{true, false}
+-- The lines of the names, one after the other.
+use Prim.Native.Nat.{ℕ, suc, ◌+◌, ◌*◌, ◌-◌, ◌≤◌, ◌<◌}
+use mathlib.Core.Path.{◌≡◌, sym, ap, ◌∙◌}
 use mathlib.Core.List.{List, [], ◌∷◌, ◌++◌, append_assoc, append-nil}
-use mathlib.Core.Logic.{by_cases}
-use native.Mathlib.Decide.{dec_lt}
 use native.Mathlib.Omega.{arith}
 use native.Mathlib.Nat.{add-zero, mul-le-mul_right, suc-mul}
 use native.Mathlib.Numerals.{add-one}
-use lib.ListN.{length, take, drop, get_or, length-take, length-drop, drop_of_length-le}
+use lib.ListN.{length, get_or}
 use Rattle.scope.specs.Words.{Word, value, values_from, spelled}
 use Rattle.theory.specs.Words.Spelling.{length_spelled}
 use Rattle.told.specs.Values.{values_more}
-use Rattle.said.specs.Said.{barred, name_said, define_line, define_lines}
-
-pub name_shorter : (text : List ℕ) (from to : ℕ) → length (take (to - from) (drop from text)) ≤ length text
-name_shorter text from to = omega (arith, length-take (to - from) (drop from text), length-drop from text)
-
-module _ (text : List ℕ) (from to : ℕ) (name : List ℕ) (e : name ≡ take (to - from) (drop from text)) where
-  pub with_bars : barred text from ≡ true → (124 ∷ []) ++ (name ++ (124 ∷ [])) ≡ name_said text from to
-  with_bars h = rw (e, h)
-
-  pub without_bars : barred text from ≡ false → name ≡ name_said text from to
-  without_bars h = rw (e, h)
+use Rattle.said.specs.Said.{name_said, define_line, define_lines}
 
 -- ---- one line after the other
 
@@ -48,34 +35,3 @@ lines_more text bounds i w v e =
 
 pub one_row_more : (i n m : ℕ) → i < n → i * m + m ≤ n * m
 one_row_more i n m h = omega (arith, suc-mul i m, mul-le-mul_right m h)
-
--- ---- a stretch, as far as the text has it
-
-take_all : (k : ℕ) (l : List ℕ) → length l ≤ k → take k l ≡ l
-take_all zero [] h = refl
-take_all (suc k) [] h = refl
-take_all zero (x ∷ l) h = absurd (omega arith)
-take_all (suc k) (x ∷ l) h = ap (λ (m : List ℕ). x ∷ m) (take_all k l (omega arith))
-
-take_none : (k : ℕ) → take {A = ℕ} k [] ≡ []
-take_none zero = refl
-take_none (suc k) = refl
-
-pub stretch_clamped : (text : List ℕ) (from to end start : ℕ) → end ≡ min to (length text) → start ≡ min from end
-    → take (end - start) (drop start text) ≡ take (to - from) (drop from text)
-stretch_clamped text from to end start e s = by_cases (dec_lt from end) inside behind
-  where
-    short : length text ≤ to → take (end - from) (drop from text) ≡ take (to - from) (drop from text)
-    short h =
-        let l = length-drop from text in
-        take_all (end - from) (drop from text) (omega arith) ∙ sym (take_all (to - from) (drop from text) (omega arith))
-
-    inside : from < end → take (end - start) (drop start text) ≡ take (to - from) (drop from text)
-    inside h =
-        let f : start ≡ from = omega arith in
-        rw f (by_cases (dec_lt to (length text)) (λ p. let g : end ≡ to = omega arith in rw g) (λ p. short (omega arith)))
-
-    behind : ¬ (from < end) → take (end - start) (drop start text) ≡ take (to - from) (drop from text)
-    behind h =
-        let f : end - start ≡ 0 = omega arith in
-        rw f (sym (by_cases (dec_lt to (length text)) (λ p. let g : to - from ≡ 0 = omega arith in rw g) (λ p. rw (drop_of_length-le text {i = from} (omega arith)) (take_none (to - from)))))
