@@ -1,5 +1,4 @@
 -- `reading::end_from` meets its contract: the end record is there, or what was refused.
-use borrow.Author.Rules.{rules}
 use native.Mathlib.Omega.{arith}
 use mathlib.Core.Path.{sym, ◌∙◌}
 use Rattle.reading.proofs.Framed.{answer_within, end_refused, end_there}

@@ -1,5 +1,4 @@
 -- `reading::parts_from` meets its contract: the head, and then the formula.
-use borrow.Author.Rules.{rules}
 use native.Mathlib.Omega.{arith}
 use mathlib.Core.Path.{◌≡◌, sym, ◌∙◌}
 use Rattle.reading.specs.Steps.{head_answer}

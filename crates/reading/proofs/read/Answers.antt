@@ -1,5 +1,4 @@
 -- `reading::read` meets its contract: the parts, held as a question.
-use borrow.Author.Rules.{rules}
 use mathlib.Core.Path.{sym}
 use Rattle.reading.proofs.read.Goals as goal
 

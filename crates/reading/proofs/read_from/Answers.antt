@@ -1,5 +1,4 @@
 -- `reading::read_from` meets its contract: the parts, held as a question.
-use borrow.Author.Rules.{rules}
 use Rattle.reading.proofs.read_from.Goals as goal
 
 pub returns-in-Refused : goal.returns-in-Refused

@@ -1,5 +1,4 @@
 -- `reading::read_parts` meets its contract: nothing may be left after the end.
-use borrow.Author.Rules.{rules}
 use Rattle.reading.proofs.Ends.{not_read, left_over, all_read}
 use Rattle.reading.proofs.read_parts.Goals as goal
 

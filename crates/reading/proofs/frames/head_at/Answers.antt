@@ -4,7 +4,6 @@ use mathlib.Core.Path.{◌≡◌, sym, ◌∙◌}
 use Rattle.reading.specs.Steps.{frame_answer}
 use Rattle.reading.specs.declared.frames.FrameAnswer.{FrameAnswer}
 use Rattle.reading.proofs.Framed.{answer_within, head_refused, head_beyond, head_there}
-use borrow.Author.Rules.{rules}
 use Rattle.reading.proofs.frames.head_at.Goals as goal
 use Rattle.reading.proofs.frames.head_at.Goals.{In-There}
 

@@ -1,6 +1,4 @@
 -- `reading::nodes::node_at` meets its contract: the frame, and then the size of the formula and the numbers.
-use borrow.Author.Rules.{rules}
-use native.Mathlib.Omega.{arith}
 use mathlib.Core.Path.{◌≡◌, refl, sym, ap, ◌∙◌}
 use mathlib.Core.Bool.{Bool, true, false}
 use mathlib.Core.List.{List}
@@ -62,9 +60,6 @@ returns-then-not-sized c =
     read_refused (bytes s) s.args.depth (so_far s) _
     (c.refused-then-not-sized.ensures ∙ node_large (bytes s) s.args.depth (so_far s) _ (framed s) c.if-nodes-ge-NODES.false (size_is s c.is_atom-atom.result c.is_atom-atom.ensures _ false c.sized.ensures c.if-not-sized.true))
     _ _ c.refused-then-not-sized.ensures
-
-pub bounds-codes-nodes : goal.bounds-codes-nodes
-bounds-codes-nodes c = omega (arith, c.if-nodes-ge-NODES.false, c.requires.1.codes)
 
 pub returns-then-not-atom : goal.returns-then-not-atom
 returns-then-not-atom c =

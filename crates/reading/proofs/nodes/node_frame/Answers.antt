@@ -5,10 +5,9 @@ use mathlib.Core.Bool.{true, not}
 use mathlib.Core.Option.{Option}
 use mathlib.Core.List.{List, []}
 use Prim.Native.Nat.{ℕ}
-use borrow.Author.Rules.{rules}
 use Rattle.scope.specs.declared.Refusal.{Refusal}
-use Rattle.scope.specs.Question.{Node, node_of, code_of, is_unused}
-use Rattle.scope.specs.Wire.{length_at, node_of_kind, body_length}
+use Rattle.scope.specs.Question.{node_of, code_of, is_unused}
+use Rattle.scope.specs.Wire.{node_of_kind, body_length}
 use Rattle.theory.specs.Wire.Records.{node_of_code}
 use Rattle.records.specs.declared.nodes.NodeAnswer.{NodeAnswer}
 use Rattle.records.specs.Parts.{node_or}
