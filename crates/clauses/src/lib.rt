@@ -21,7 +21,7 @@ const NOT: u8 = 8;
 const OR: u8 = 10;
 
 // A formula that was read, or the end of the list (ended): the lowest of its faults, and the place where what follows it starts.
-#[derive(Drop)]
+#[derive(Clone, Copy)]
 pub struct ClausePart {
     pub ended: bool,
     pub fault: Spot,

@@ -26,7 +26,7 @@ pub const BUILT: u64 = 5;
 const SPOILT: u64 = u64::MAX;
 
 // An answer by numbers: the states and, for found and short, the letters; for refused the refusal's number and its place.
-#[derive(Drop)]
+#[derive(Clone, Copy)]
 pub struct Told {
     pub verdict: u64,
     pub states: usize,

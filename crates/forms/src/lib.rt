@@ -21,7 +21,7 @@ const CLOSES: u8 = 4;
 
 // A form, or the end of the list or of the text: where its first byte is, and where what follows it starts. A symbol and a reserved word are spelt
 // from one place up to another; the value of a numeral above 1,000,000 is 1,000,001.
-#[derive(Drop)]
+#[derive(Clone, Copy)]
 pub struct Form {
     pub kind: u8,
     pub place: usize,

@@ -69,7 +69,7 @@ fn either(x: [u64; WORDS], y: [u64; WORDS]) -> [u64; WORDS]
 }
 
 // A part that is settled: its truths, and the node and the atom after it.
-#[derive(Drop)]
+#[derive(Clone, Copy)]
 pub struct Part {
     pub truths: [u64; WORDS],
     pub node: usize,

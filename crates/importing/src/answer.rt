@@ -15,7 +15,7 @@ pub const BOUNDS: usize = 2 * Question::VARIABLES;
 
 // What an import gives: its answer and the question, which is empty where it was refused; and of each variable where its name is spelt in the text: the place of the first byte and the
 // one behind the last, two for each, zeros behind them.
-#[derive(Drop)]
+#[derive(Clone, Copy)]
 pub struct Import {
     pub held: Held,
     pub names: [usize; BOUNDS],

@@ -20,7 +20,7 @@ const AND: u8 = 4;
 const INNER: usize = 31;
 
 // How far the commands are laid: the names declared so far, the assertions left, and the place of the next command.
-#[derive(Drop)]
+#[derive(Clone, Copy)]
 pub struct Progress {
     pub laying: Laying,
     pub count: usize,

@@ -27,7 +27,7 @@ const NOT: u8 = 8;
 const OR: u8 = 10;
 
 // The question of n variables as far as it is laid, the depth at which the next node stands, and the refusal, whose number is 0 where there is none.
-#[derive(Drop)]
+#[derive(Clone, Copy)]
 pub struct Laying {
     pub n: usize,
     pub nodes: usize,
@@ -60,7 +60,7 @@ impl Laying {
 }
 
 // What was laid, and the place where what follows it starts, which counts where nothing was refused.
-#[derive(Drop)]
+#[derive(Clone, Copy)]
 pub struct Laid {
     pub laying: Laying,
     pub next: usize,

@@ -6,7 +6,7 @@ use forms::{Form, form_at, form_end};
 use terms::head_at;
 
 // A list: its place, the code of its head, and where its parts start.
-#[derive(Drop)]
+#[derive(Clone, Copy)]
 pub struct ListStart {
     pub place: usize,
     pub code: u8,
@@ -14,7 +14,7 @@ pub struct ListStart {
 }
 
 // What is behind a part: the end of the list (last), and where what follows the list starts; or another part, and its place.
-#[derive(Drop)]
+#[derive(Clone, Copy)]
 pub struct PartEnd {
     pub last: bool,
     pub place: usize,

@@ -18,7 +18,7 @@ pub use spelling::{is_reserved, is_theory_word, same_stretch, spelt};
 const NESTING: usize = 32;
 
 // A place in the text, where there is one.
-#[derive(Drop)]
+#[derive(Clone, Copy)]
 pub struct Spot {
     pub there: bool,
     pub place: usize,

@@ -10,7 +10,7 @@ ghost use Rattle.place.specs.Steps.{moved_by, start_by, len_by, PlaceStepped};
 use records::{body, record_at};
 use scope::RecordAnswer;
 
-#[derive(Drop)]
+#[derive(Clone, Copy)]
 pub struct Place<'a> {
     pub bytes: &'a [u8],
     pub at: usize,
@@ -18,7 +18,7 @@ pub struct Place<'a> {
 
 // A step: the place moved past the record, its answer, and the record's body as that stretch of the caller's bytes.
 // Where it is refused, the place as it was, and no bytes.
-#[derive(Drop)]
+#[derive(Clone, Copy)]
 pub struct Step<'a> {
     pub place: Place<'a>,
     pub answer: RecordAnswer,

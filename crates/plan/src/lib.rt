@@ -22,7 +22,7 @@ pub const FEW: usize = 256;
 pub const MANY: usize = 65_536;
 
 // What is fixed while a question's rows are numbered.
-#[derive(Drop)]
+#[derive(Clone, Copy)]
 pub struct Plan {
     // The atoms' kinds, with 0 past them.
     pub kinds: [u8; Question::ATOMS],
@@ -60,7 +60,7 @@ impl Plan {
 }
 
 // Where exploring stands: the rows so far, and the row and the letter that come next.
-#[derive(Drop)]
+#[derive(Clone, Copy)]
 pub struct Stand {
     pub count: usize,
     pub row: usize,
@@ -148,7 +148,7 @@ impl Stand {
 
 // How exploring ended: at a state that accepts, to which the letter of the row leads; with a row for every reachable state; or for want of rows.
 // And the rows that are filled.
-#[derive(Drop)]
+#[derive(Clone, Copy)]
 pub enum Explored {
     Found {
         states: usize,

@@ -6,14 +6,14 @@ use records::{HeaderAnswer, header_at, variables_fit};
 use scope::Refusal;
 
 // Whether a record of a known kind and length is there.
-#[derive(Drop)]
+#[derive(Clone, Copy)]
 pub enum FrameAnswer {
     There,
     Refused(Refusal),
 }
 
 // The head: n.
-#[derive(Drop)]
+#[derive(Clone, Copy)]
 pub enum HeadAnswer {
     Head(u8),
     Refused(Refusal),

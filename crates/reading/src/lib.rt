@@ -15,7 +15,7 @@ use records::{DUE, NodeAnswer, body_length, count_of, grown, unread};
 use scope::{Held, Question, ReadAnswer, Refusal};
 
 // What reading from a place gives: its answer, the question, which is empty where it was refused, and the place after the end record.
-#[derive(Drop)]
+#[derive(Clone, Copy)]
 pub struct ReadPart {
     pub answer: ReadAnswer,
     pub question: Question,
@@ -23,7 +23,7 @@ pub struct ReadPart {
 }
 
 // What reading into lent parts gives: n, and the place after the end record. A question handed on by value would be copied each time.
-#[derive(Drop)]
+#[derive(Clone, Copy)]
 pub enum PartsAnswer {
     Parts { n: u8, next: usize },
     Refused(Refusal),

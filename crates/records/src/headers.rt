@@ -4,7 +4,7 @@ ghost use Rattle.scope.specs.Wire.{two_at};
 ghost use Rattle.records.specs.Headers.{header_at};
 
 // The header of a record: its kind and the length of its body. Cut: fewer than 4 bytes are left.
-#[derive(Drop)]
+#[derive(Clone, Copy)]
 pub enum HeaderAnswer {
     Header { kind: u16, len: usize },
     Cut,

@@ -9,7 +9,7 @@ ghost use Rattle.records.specs.declared.nodes.NodeAnswer.{NodeAnswer};
 use scope::{Refusal, is_atom};
 
 // A node: its code.
-#[derive(Drop)]
+#[derive(Clone, Copy)]
 pub enum NodeAnswer {
     Node(u8),
     Refused(Refusal),

@@ -7,7 +7,7 @@ ghost use Rattle.scope.specs.Sizes.{limits, most_letters, most_variables};
 ghost use Rattle.scope.specs.Question.{node_of, is_atom, empty_question};
 
 // A held question. Unused entries are zero.
-#[derive(Drop)]
+#[derive(Clone, Copy)]
 pub struct Question {
     pub n: u8,
     // In the formula's order: 0 unused, 1 equation, 2 at most, 3 not, 4 and, 5 or.
@@ -89,7 +89,7 @@ pub fn letters(n: usize) -> usize
 }
 
 // Each limit of a question, as a value.
-#[derive(Drop)]
+#[derive(Clone, Copy)]
 pub struct Limits {
     pub variables: usize,
     pub atoms: usize,
@@ -103,7 +103,7 @@ pub struct Limits {
 }
 
 // Why a call was refused: the documents' number, and the place.
-#[derive(Drop)]
+#[derive(Clone, Copy)]
 pub struct Refusal {
     pub number: u8,
     pub place: usize,
@@ -142,7 +142,7 @@ impl Refusal {
 }
 
 // A record step: the kind, where the body starts, its length, and where the next record starts.
-#[derive(Drop)]
+#[derive(Clone, Copy)]
 pub enum RecordAnswer {
     Record {
         kind: u16,
@@ -153,28 +153,28 @@ pub enum RecordAnswer {
     Refused(Refusal),
 }
 
-#[derive(Drop)]
+#[derive(Clone, Copy)]
 pub enum ReadAnswer {
     Accepted,
     Refused(Refusal),
 }
 
 // What reading gives: its answer, and the question that was read, which is empty where it was refused.
-#[derive(Drop)]
+#[derive(Clone, Copy)]
 pub struct Held {
     pub answer: ReadAnswer,
     pub question: Question,
 }
 
 // Writing: how many bytes were written.
-#[derive(Drop)]
+#[derive(Clone, Copy)]
 pub enum WriteAnswer {
     Written(usize),
     Refused(Refusal),
 }
 
 // Judging and running.
-#[derive(Drop)]
+#[derive(Clone, Copy)]
 pub enum TruthAnswer {
     Yes,
     No,
@@ -182,7 +182,7 @@ pub enum TruthAnswer {
 }
 
 // Deciding: the states counted and, for found, the letters of the word. Short: the word buffer is too short for it.
-#[derive(Drop)]
+#[derive(Clone, Copy)]
 pub enum DecideAnswer {
     Found { states: usize, letters: usize },
     Never { states: usize },
@@ -192,14 +192,14 @@ pub enum DecideAnswer {
 }
 
 // Building: the states counted.
-#[derive(Drop)]
+#[derive(Clone, Copy)]
 pub enum BuildAnswer {
     Built { states: usize },
     NoRoom { states: usize },
     Refused(Refusal),
 }
 
-#[derive(Drop)]
+#[derive(Clone, Copy)]
 pub enum SpellAnswer {
     Value(u64),
     Refused(Refusal),

@@ -21,7 +21,7 @@ pub use missing::fault_of;
 pub const NAMES: usize = 7;
 
 // The first parts of a list: how many (four and more as 4), and the first three.
-#[derive(Drop)]
+#[derive(Clone, Copy)]
 pub struct Parts {
     pub count: u8,
     pub first: Form,
@@ -30,7 +30,7 @@ pub struct Parts {
 }
 
 // A command by its code (0 set-logic, 1 declare-const, 2 assert, 3 check-sat, 4 another) and where its parts start.
-#[derive(Drop)]
+#[derive(Clone, Copy)]
 pub struct CommandHead {
     pub code: u8,
     pub next: usize,
@@ -50,7 +50,7 @@ impl CommandHead {
 
 // What is kept of a script: its stage, and where check-sat is; how many names there are, and of each where its spelling starts and ends (bounds), the place of its
 // command, that of its token, and whether it has a sign assertion; how many other assertions there are; and the lowest place that is a 15 and that is a 4.
-#[derive(Drop)]
+#[derive(Clone, Copy)]
 pub struct Kept {
     pub stage: u8,
     pub check: usize,

@@ -99,7 +99,7 @@ pub fn worths_of(
 }
 
 // The atoms' kinds in their order, 1 equation and 2 at most, with 0 past them; and how many there are.
-#[derive(Drop)]
+#[derive(Clone, Copy)]
 pub struct Kinds {
     pub kinds: [u8; Question::ATOMS],
     pub m: usize,

@@ -12,14 +12,14 @@ use crate::{ListHead, NUMBERS, TermPart};
 use lexicon::{Spot, lower};
 
 // A part's numbers, and whether it is a numeral.
-#[derive(Drop)]
+#[derive(Clone, Copy)]
 pub struct Piece {
     pub numeric: bool,
     pub numbers: [i64; NUMBERS],
 }
 
 // How many parts there are, three for more; the sum of all of them; the first one, and the last one behind it; the lowest fault of all of them.
-#[derive(Drop)]
+#[derive(Clone, Copy)]
 pub struct Gathering {
     pub count: usize,
     pub sum: Sum,

@@ -27,7 +27,7 @@ const NUMBERS: usize = 7;
 
 // A term that was read, or the end of the list (ended): its numbers, which count where it has no fault; the lowest of its faults; and the place
 // where what follows it starts.
-#[derive(Drop)]
+#[derive(Clone, Copy)]
 pub struct TermPart {
     pub ended: bool,
     pub numeric: bool,
@@ -90,7 +90,7 @@ impl TermPart {
 }
 
 // The head of a list, by its code, and where the parts behind it start.
-#[derive(Drop)]
+#[derive(Clone, Copy)]
 pub struct ListHead {
     pub code: u8,
     pub next: usize,

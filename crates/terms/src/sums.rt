@@ -6,14 +6,14 @@ ghost use Rattle.terms.specs.Seven.{most_low, small_number, LaneFits, LaneAdded,
 use crate::NUMBERS;
 
 // A sum: each number is low + high * 2^50, the low part at most 2^49 either way.
-#[derive(Drop)]
+#[derive(Clone, Copy)]
 pub struct Sum {
     pub low: [i64; NUMBERS],
     pub high: [i64; NUMBERS],
 }
 
 // One number of a sum.
-#[derive(Drop)]
+#[derive(Clone, Copy)]
 struct Lane {
     low: i64,
     high: i64,

@@ -16,7 +16,7 @@ use records::{
 use scope::{Question, Refusal, is_atom};
 
 // The formula's nodes and atoms, and the bytes of the head and its nodes.
-#[derive(Drop)]
+#[derive(Clone, Copy)]
 pub enum FormulaAnswer {
     Formula {
         nodes: usize,
