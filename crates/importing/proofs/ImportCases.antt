@@ -20,7 +20,7 @@ use Rattle.smtlib.specs.Script.{Stage, start, under, checked, names_of, unsigned
 use Rattle.smtlib.specs.Imported.{refusing, laid_out, laid_unless, imported_if, imported}
 use Rattle.smtlib.specs.Values.{append_none}
 use Rattle.smtlib.specs.Steps.{unless_none}
-use Rattle.smtlib.specs.Scripts.{few_names}
+use Rattle.smtlib.proofs.Scripts.{few_names}
 use Rattle.smtlib.specs.Lowest.{faultless_exactly}
 use Rattle.smtlib.specs.Cases.{script_in, formula_in, fault_in}
 use Rattle.lexicon.specs.declared.Spot.{Spot}

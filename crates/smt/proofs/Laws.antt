@@ -27,7 +27,7 @@ use Rattle.theory.specs.Trees.Written.{held_written}
 use Rattle.smtlib.specs.Script.{Declaration}
 use Rattle.smtlib.specs.Imported.{bounds_of, imported}
 use Rattle.smtlib.specs.Cases.{script_in}
-use Rattle.smtlib.specs.Accepted.{accepted_few, accepted_question, accepted_within, variables_names}
+use Rattle.smtlib.proofs.Accepted.{accepted_few, accepted_question, accepted_within, variables_names}
 use Rattle.told.specs.Text.{ascii}
 use Rattle.told.specs.Writers.{Put}
 use Rattle.said.specs.Said.{error_line, said_of, BoundsStand}

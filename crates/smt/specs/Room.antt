@@ -25,7 +25,7 @@ use Rattle.theory.specs.Calls.Decided.{RowFound, letters_fewer}
 use Rattle.theory.specs.Calls.Questions.{found_as, short_as}
 use Rattle.smtlib.specs.Imported.{imported}
 use Rattle.smtlib.specs.Cases.{question_in}
-use Rattle.smtlib.specs.Accepted.{accepted_faultless, accepted_few, accepted_within}
+use Rattle.smtlib.proofs.Accepted.{accepted_faultless, accepted_few, accepted_within}
 use Rattle.told.specs.Values.{Spellable, spelt_value}
 use Rattle.said.specs.Said.{model_lines, model_said}
 use Rattle.smt.specs.Solved.{solve_keys, solve_path, solve_word, names_count, text_tree, text_bytes, solved_for}

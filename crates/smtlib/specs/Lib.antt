@@ -17,21 +17,9 @@ pub mod Cases
 pub mod Edges
 -- a term is worth what the text says
 pub mod Values
--- a formula is true where the text says so
-pub mod Truths
 -- names and their values
 pub mod Names
 -- what a sign assertion says
 pub mod Signs
 -- what a command does to the script
 pub mod Steps
--- the script of a text: its names, their signs, what is asserted
-pub mod Scripts
--- six coefficients in every atom
-pub mod Rows
--- what passes its checks is within the limits of a question
-pub mod Within
--- what is held of an accepted text is a question
-pub mod Accepted
--- and it says what the text says
-pub mod Means

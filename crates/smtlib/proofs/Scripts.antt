@@ -15,7 +15,7 @@ use Rattle.smtlib.specs.Formulas.{Clause, clauses_of}
 use Rattle.smtlib.specs.Script.{Command, Declaration, Script, names_of, signed_as, script_of}
 use Rattle.smtlib.specs.Meaning.{every, truths_of, command_holds, text_holds}
 use Rattle.smtlib.specs.Values.{Named}
-use Rattle.smtlib.specs.Truths.{truth_in, EachSays, clauses_say}
+use Rattle.smtlib.proofs.Truths.{truth_in, EachSays, clauses_say}
 use Rattle.smtlib.specs.Names.{same→eq, named_fewer, index_there, Distinct, distinct_more}
 use Rattle.smtlib.specs.Signs.{sign_says}
 use Rattle.smtlib.specs.Steps.{Change, nothing_new, new_name, new_sign, new_clause, CommandStep, KeptBy, text_keeps, script_keeps}

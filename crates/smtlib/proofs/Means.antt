@@ -16,12 +16,12 @@ use Rattle.smtlib.specs.Script.{unless, Declaration, names_of, unsigned}
 use Rattle.smtlib.specs.Imported.{conjoined, tree_of, imported}
 use Rattle.smtlib.specs.Meaning.{every, text_holds}
 use Rattle.smtlib.specs.Values.{append_none, Named}
-use Rattle.smtlib.specs.Truths.{truth_in}
+use Rattle.smtlib.proofs.Truths.{truth_in}
 use Rattle.smtlib.specs.Names.{GivesNames, gives_length, gives_named, valued, valued_gives}
 use Rattle.smtlib.specs.Steps.{unless_none}
-use Rattle.smtlib.specs.Scripts.{distinct_names, SignedNatural, signed_hold, all_hold, asserted_says}
+use Rattle.smtlib.proofs.Scripts.{distinct_names, SignedNatural, signed_hold, all_hold, asserted_says}
 use Rattle.smtlib.specs.Cases.{script_in, formula_in}
-use Rattle.smtlib.specs.Accepted.{declared_names, accepted_faultless, accepted_few, accepted_question, variables_names, accepted_within}
+use Rattle.smtlib.proofs.Accepted.{declared_names, accepted_faultless, accepted_few, accepted_question, variables_names, accepted_within}
 
 -- ---- the assertions joined by and
 

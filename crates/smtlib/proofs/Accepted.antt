@@ -18,9 +18,9 @@ use Rattle.smtlib.specs.Script.{unless, Stage, start, under, checked, Declaratio
 use Rattle.smtlib.specs.Imported.{tree_of, imported}
 use Rattle.smtlib.specs.Values.{append_none}
 use Rattle.smtlib.specs.Steps.{unless_none}
-use Rattle.smtlib.specs.Scripts.{few_names}
-use Rattle.smtlib.specs.Rows.{script_six}
-use Rattle.smtlib.specs.Within.{passed_within}
+use Rattle.smtlib.proofs.Scripts.{few_names}
+use Rattle.smtlib.proofs.Rows.{script_six}
+use Rattle.smtlib.proofs.Within.{passed_within}
 use Rattle.smtlib.specs.Lowest.{faultless_exactly}
 use Rattle.smtlib.specs.Cases.{script_in, formula_in, limit_checks, question_in, ImportAccepted, accepted_exactly, accepted_import}
 
