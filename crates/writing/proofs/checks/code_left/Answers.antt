@@ -1,0 +1,19 @@
+-- `writing::checks::code_left` meets its contract: every code before i is zero.
+use borrow.Author.Rules.{rules}
+use mathlib.Core.Path.{refl}
+use Prim.Native.Nat.{◌-◌}
+use Rattle.scope.specs.Sizes.{most_nodes}
+use Rattle.writing.proofs.Sweeps.{LeftFrom, left_again, left_found, left_none}
+use Rattle.writing.proofs.checks.code_left.Goals as goal
+
+pub loop-i-init : goal.loop-i-init
+loop-i-init c = (c.requires.0, λ later. refl)
+
+pub returns-then-codes-i-ne0 : goal.returns-then-codes-i-ne0
+returns-then-codes-i-ne0 c = left_found _ _ _ c.loop-i-test.true c.if-codes-i-ne0.true c.loop-i.invariant
+
+pub loop-i-preserved : goal.loop-i-preserved
+loop-i-preserved c = left_again _ _ _ c.loop-i-test.true c.if-codes-i-ne0.false c.loop-i.invariant
+
+pub returns : goal.returns
+returns c = left_none _ _ _ c.loop-i-test.false c.loop-i.invariant

@@ -1,0 +1,12 @@
+use borrow.Author.Rules.{rules}
+use mathlib.Core.Path.{refl}
+use Prim.Native.Nat.{◌-◌}
+use Rattle.scope.specs.Sizes.{most_nodes}
+use Rattle.writing.proofs.Sweeps.{LeftFrom, left_again, left_found, left_none}
+use Rattle.writing.proofs.checks.code_left.Given as goal
+
+abbrev pub invariant-loop-i : goal.invariant-loop-i
+invariant-loop-i l = LeftFrom l.codes l.initial.i l.i
+
+abbrev pub decreases-loop-i : goal.decreases-loop-i
+decreases-loop-i l = most_nodes - l.i
