@@ -1,5 +1,4 @@
 -- `writing::write_parts` meets its contract: refused, too short a buffer, or written.
-use borrow.Author.Rules.{rules}
 use native.Mathlib.Omega.{arith}
 use Rattle.scope.specs.declared.Question.{Question}
 use Rattle.records.specs.Parts.{held_question}

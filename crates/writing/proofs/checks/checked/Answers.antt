@@ -1,5 +1,4 @@
 -- `writing::checks::checked` meets its contract: n, the formula, and then what is left over.
-use borrow.Author.Rules.{rules}
 use native.Mathlib.Omega.{arith}
 use mathlib.Core.Path.{◌≡◌, sym, ◌∙◌}
 use mathlib.Core.Bool.{Bool, true, false}

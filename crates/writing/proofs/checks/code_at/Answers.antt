@@ -1,17 +1,15 @@
 -- `writing::checks::code_at` meets its contract: each test settles a check.
-use native.Mathlib.Omega.{arith}
 use mathlib.Core.Path.{◌≡◌, sym, ap, ◌∙◌}
-use mathlib.Core.Bool.{Bool, true, false, not}
+use mathlib.Core.Bool.{Bool, true, false}
 use Prim.Native.Nat.{ℕ}
 use Rattle.scope.specs.declared.Question.{Question}
-use Rattle.scope.specs.Question.{Node, is_unused, is_atom}
+use Rattle.scope.specs.Question.{Node, is_atom}
 use Rattle.records.specs.Parts.{held_question}
 use Rattle.scope.specs.Writing.{Walk, node_held}
 use Rattle.records.specs.Formula.{size_fits}
 use Rattle.records.proofs.Checks.{sized_few}
 use Rattle.writing.specs.Writes.{walk_at}
 use Rattle.writing.proofs.Checking.{numbers_alone, code_full, code_kind, code_large, code_plain, code_atom}
-use borrow.Author.Rules.{rules}
 use Rattle.writing.proofs.checks.code_at.Goals as goal
 use Rattle.writing.proofs.checks.code_at.Goals.{Start}
 
@@ -19,13 +17,12 @@ use Rattle.writing.proofs.checks.code_at.Goals.{Start}
 module _ (s : goal.Start) where
   abbrev held : Question
   held = held_question s.args.n s.args.codes.now s.args.coefficients.now s.args.constants.now
+
   abbrev walk : Walk
   walk = walk_at held s.args.nodes s.args.atoms
+
   abbrev here : Node
   here = node_held held walk
-
-pub bounds-codes-nodes : goal.bounds-codes-nodes
-bounds-codes-nodes c = omega (arith, c.if-nodes-ge-NODES.false, c.requires.1.codes)
 
 size_is : (a b v t : Bool) (atoms depth : ℕ) → a ≡ b → v ≡ size_fits a atoms depth → v ≡ t → size_fits b atoms depth ≡ t
 size_is a b v t atoms depth e f g = ap (λ (x : Bool). size_fits x atoms depth) (sym e) ∙ sym f ∙ g

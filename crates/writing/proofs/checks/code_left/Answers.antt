@@ -1,9 +1,6 @@
 -- `writing::checks::code_left` meets its contract: every code before i is zero.
-use borrow.Author.Rules.{rules}
 use mathlib.Core.Path.{refl}
-use Prim.Native.Nat.{◌-◌}
-use Rattle.scope.specs.Sizes.{most_nodes}
-use Rattle.writing.proofs.Sweeps.{LeftFrom, left_again, left_found, left_none}
+use Rattle.writing.proofs.Sweeps.{left_again, left_found, left_none}
 use Rattle.writing.proofs.checks.code_left.Goals as goal
 
 pub loop-i-init : goal.loop-i-init

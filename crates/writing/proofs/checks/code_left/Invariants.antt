@@ -1,8 +1,6 @@
-use borrow.Author.Rules.{rules}
-use mathlib.Core.Path.{refl}
 use Prim.Native.Nat.{◌-◌}
 use Rattle.scope.specs.Sizes.{most_nodes}
-use Rattle.writing.proofs.Sweeps.{LeftFrom, left_again, left_found, left_none}
+use Rattle.writing.proofs.Sweeps.{LeftFrom}
 use Rattle.writing.proofs.checks.code_left.Given as goal
 
 abbrev pub invariant-loop-i : goal.invariant-loop-i

@@ -1,9 +1,5 @@
-use borrow.Author.Rules.{rules}
-use native.Mathlib.Omega.{arith}
-use mathlib.Core.Path.{sym, ◌∙◌}
 use Prim.Native.Nat.{◌-◌}
-use borrow.Author.Tests.{not-true, not-false}
-use Rattle.writing.proofs.Sweeps.{RowsFrom, rows_start, rows_again, rows_not, rows_whole}
+use Rattle.writing.proofs.Sweeps.{RowsFrom}
 use Rattle.writing.proofs.checks.coefficients_clear.Given as goal
 
 abbrev pub invariant-loop-atom : goal.invariant-loop-atom

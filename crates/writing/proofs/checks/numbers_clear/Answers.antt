@@ -1,5 +1,4 @@
 -- `writing::checks::numbers_clear` meets its contract.
-use borrow.Author.Rules.{rules}
 use mathlib.Core.Path.{sym, ◌∙◌}
 use Rattle.fields.specs.Fields.{bare_question}
 use Rattle.writing.proofs.Checking.{cells_clear, cells_left}

@@ -1,12 +1,12 @@
 -- `writing::checks::row_clear` meets its contract: whether the numbers from i on are zero says whether all are.
 use borrow.Author.Rules.{rules}
 use mathlib.Core.Path.{sym, ◌∙◌}
-use Prim.Native.Nat.{◌-◌, ◌+◌}
+use Prim.Native.Nat.{◌+◌}
 use lib.IntN.{pos}
 use lib.ListN.{get_or}
 use borrow.Author.Tests.{eq-eqb, ne_eqb}
 use Rattle.writing.specs.Writes.{is_zero}
-use Rattle.fields.proofs.Rows.{RowFrom, row_start, row_again, row_not, row_whole}
+use Rattle.fields.proofs.Rows.{row_start, row_again, row_not, row_whole}
 use Rattle.writing.proofs.Sweeps.{zero_test}
 use Rattle.writing.proofs.checks.row_clear.Goals as goal
 

@@ -1,7 +1,6 @@
 -- `writing::putting::counted` meets its contract.
 use mathlib.Core.Path.{sym, ◌∙◌}
 use native.Mathlib.Nat.{add-zero}
-use borrow.Author.Rules.{rules}
 use Rattle.writing.proofs.putting.counted.Goals as goal
 
 pub returns-then-is_atom : goal.returns-then-is_atom

@@ -5,7 +5,6 @@ use mathlib.Core.List.{List}
 use lib.Seq.{sets}
 use Rattle.scope.specs.Writing.{two_bytes}
 use Rattle.fields.proofs.Stores.{sets_append}
-use borrow.Author.Rules.{rules}
 use Rattle.writing.proofs.putting.put_header.Goals as goal
 
 pub returns : goal.returns

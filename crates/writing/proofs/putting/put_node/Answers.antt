@@ -9,7 +9,6 @@ use Rattle.scope.specs.Wire.{body_length}
 use Rattle.fields.specs.Fields.{bare_question}
 use Rattle.writing.proofs.Lengths.{body_small}
 use Rattle.writing.proofs.Placing.{put_plain, put_with_body, body_is}
-use borrow.Author.Rules.{rules}
 use Rattle.writing.proofs.putting.put_node.Goals as goal
 use Rattle.writing.proofs.putting.put_node.Goals.{Start, Then-is_atom}
 

@@ -1,8 +1,7 @@
 -- `writing::putting::put_question` meets its contract: what is still to be put leads to the whole.
-use borrow.Author.Rules.{rules}
 use native.Mathlib.Omega.{arith}
 use mathlib.Core.Path.{◌≡◌, sym, ap, ◌∙◌}
-use Prim.Native.Nat.{ℕ, ◌-◌, ◌≤◌, ◌<◌, ◌+◌}
+use Prim.Native.Nat.{ℕ, ◌≤◌, ◌<◌, ◌+◌}
 use lib.ListN.{length}
 use lib.Seq.{sets}
 use mathlib.Core.Bool.{true}
@@ -14,7 +13,7 @@ use Rattle.scope.specs.declared.Question.{Question}
 use Rattle.records.specs.Parts.{held_question}
 use Rattle.writing.specs.Writes.{code_node, atoms_to, bytes_to}
 use Rattle.writing.proofs.Lengths.{node_length, bytes_first}
-use Rattle.writing.proofs.Placing.{bytes_alone, NodesLeft, nodes_start, nodes_again, nodes_whole, length_below, atoms_below, atoms_most, bytes_least}
+use Rattle.writing.proofs.Placing.{bytes_alone, nodes_start, nodes_again, nodes_whole, length_below, atoms_below, atoms_most, bytes_least}
 use Rattle.writing.proofs.putting.put_question.Goals as goal
 use Rattle.writing.proofs.putting.put_question.Goals.{At-loop-i, In-loop-i}
 

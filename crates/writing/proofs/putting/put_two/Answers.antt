@@ -2,7 +2,6 @@
 use native.Mathlib.Omega.{arith}
 use native.Mathlib.Numerals.{add-one}
 use lib.ListN.{length-set}
-use borrow.Author.Rules.{rules}
 use Rattle.writing.proofs.putting.put_two.Goals as goal
 
 pub bounds-bytes-at-2 : goal.bounds-bytes-at-2
