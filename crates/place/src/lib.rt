@@ -1,5 +1,5 @@
 // A place in a question, opened on the caller's own bytes and moved record by record, as document 01 has it.
-// The struct holds the slice, so each function over it is thin, calls functions on plain slices, and is proved by hand, statement by statement.
+// The struct holds the slice, so each function over it is thin, and calls functions on plain slices.
 #![tactic(auto)]
 
 ghost use Rattle.std.specs.Prelude.{◌≡◌};
