@@ -23,11 +23,11 @@ OWN = "|".join(sorted(os.path.basename(it) for it in glob.glob("crates/*")))
 FELL_TOGETHER = {
     "at_least": ["crates/plan/"],
     "kind_at": ["crates/step/specs/Laws.antt"],
-    "new_row": ["crates/explore/"],
+    "new_row": ["crates/explore/proofs/"],
     "or_else": ["crates/theory/specs/Wire/WritingSteps.antt"],
-    "room_for": ["crates/explore/proofs/Trying.antt", "crates/laying/proofs/OneNode.antt"],
+    "room_for": ["crates/explore/proofs/Trying.antt", "crates/laying/proofs/"],
     "row_at": ["crates/judge/proofs/Products.antt"],
-    "row_of": ["crates/numbering/proofs/Going.antt"],
+    "row_of": ["crates/numbering/proofs/"],
 }
 # Of two lemmas that would fall together, the one that is renamed.
 LATER = {}

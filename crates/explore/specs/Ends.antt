@@ -9,7 +9,7 @@ use Rattle.std.proofs.lemmas.Bool.{lt-leb}
 use Rattle.scope.specs.Numbering.{Machine, Rows, row, numbered}
 use Rattle.scope.specs.Deciding.{Verdict, found, never, no_room, counted}
 use Rattle.theory.specs.Machine.Lawful.{Lawful}
-use Rattle.theory.specs.Machine.Exploring.{partial, new_row_lem, grown_length, partial_zero, partial_longer, found_end, found_row, found_counted, no_room_end, no_room_more, no_room_taken, never_end, all_fit, all_rows}
+use Rattle.theory.specs.Machine.Exploring.{partial, new_row, grown_length, partial_zero, partial_longer, found_end, found_row, found_counted, no_room_end, no_room_more, no_room_taken, never_end, all_fit, all_rows}
 use Rattle.plan.specs.declared.Plan.{Plan}
 use Rattle.plan.specs.declared.Stand.{Stand}
 use Rattle.plan.specs.declared.Explored.{Explored}
@@ -48,7 +48,7 @@ module _ (M : Machine (List ℤ)) (ok : Lawful M) (plan : Plan) (keys₀ : List 
         rw f.is_tested
         (found_end M ok s.row s.letter f.spot.begun f.spot.letter_ok f.spot.new rows within (omega (arith, last, f.count_ok)) f.none f.accepts)
 
-    its_row : row M (numbered M rows) (length before) ≡ new_row_lem M before s.row s.letter
+    its_row : row M (numbered M rows) (length before) ≡ new_row M before s.row s.letter
     its_row = found_row M ok s.row s.letter f.spot.begun f.spot.letter_ok f.spot.new rows within
 
     pub found_numbered : Numbered M plan keys₀ path₀ keys path (Explored.Found s.count s.row s.letter)

@@ -6,7 +6,7 @@ use lib.ListN.{length, take}
 use Rattle.plan.specs.Machine.{machine, Runs, machine_runs}
 use Rattle.explore.specs.Standing.{Tried}
 use Rattle.explore.proofs.Trying.{letter_below, row_within}
-use Rattle.numbering.proofs.Going.{stands, InRow, enters, row_of, leaves, again, ends_there, start_stays, left, less_left}
+use Rattle.numbering.proofs.Going.{stands, InRow, enters, row_of_lem, leaves, again, ends_there, start_stays, left, less_left}
 use Rattle.numbering.proofs.try_row.Statement.{statement}
 use Rattle.numbering.proofs.try_row.Tie as tie
 
@@ -35,7 +35,7 @@ try-letter-requires c κs =
     let t = c.before.before.before.before.before.loop.invariant.3 in
     let at = stands t.exploring in (
       s.requires.0,
-      (rw (start_stays (start_runs s) at) at, (t.exploring.linked, row_of t s.requires.1.1.1.0 row.0 row.1 c.before.before.before.if1.true)),
+      (rw (start_stays (start_runs s) at) at, (t.exploring.linked, row_of_lem t s.requires.1.1.1.0 row.0 row.1 c.before.before.before.if1.true)),
     )
 
 -- a letter is tried
@@ -57,7 +57,7 @@ loop-less c =
     let s = start w in
     let l = w.before.before.before.before.before.before.loop in
     let t = stands l.invariant.3.exploring in
-    let below = (row_of l.invariant.3 s.pre.1.1.1.0 c.before.before.before.before.before.before.before.before.before.before.before.before.before.Load-row.ensures.0 c.before.before.before.before.before.before.before.before.before.before.before.before.before.Load-row.ensures.1 c.before.before.before.before.before.before.before.before.before.before.if1.true).below in
+    let below = (row_of_lem l.invariant.3 s.pre.1.1.1.0 c.before.before.before.before.before.before.before.before.before.before.before.before.before.Load-row.ensures.0 c.before.before.before.before.before.before.before.before.before.before.before.before.before.Load-row.ensures.1 c.before.before.before.before.before.before.before.before.before.before.if1.true).below in
     less_left s.args.plan.rows l.s w.try-letter.result (omega (arith, below, t.rows_there.count_ok))
     (omega (arith, s.pre.0.few_letters, letter_below (start_runs s) s.pre.0 t below)) ((tried w).on c.if2.false)
 

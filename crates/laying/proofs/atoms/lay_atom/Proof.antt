@@ -14,7 +14,7 @@ use Rattle.smtlib.specs.Formulas.{lowered}
 use Rattle.theory.specs.Numbers.Tests.{failed, passed}
 use Rattle.laying.specs.Laid.{node_room}
 use Rattle.laying.specs.Noted.{relation_of}
-use Rattle.laying.proofs.OneNode.{room_for, no_room_lem, coefficient_beyond, constant_beyond, comparison_laid_lem}
+use Rattle.laying.proofs.OneNode.{room_for_lem, no_room_lem, coefficient_beyond, constant_beyond, comparison_laid_lem}
 use Rattle.laying.proofs.AtomNumbers.{collected_small}
 use Rattle.laying.proofs.atoms.lay_atom.Statement.{statement}
 use Rattle.laying.proofs.atoms.lay_atom.Tie as tie
@@ -58,12 +58,12 @@ with-numbers-requires c κs =
     let s = c.before.before.before.before.before.before.before.before in
     let l = s.args.laying in
     let k = c.before in
-    (s.requires.0.few, ((room_for true l.nodes l.atoms l.depth (room k.before.before.before.before)).few_atoms refl, (few k, passed k.constant-fits.ensures c.if3.false)))
+    (s.requires.0.few, ((room_for_lem true l.nodes l.atoms l.depth (room k.before.before.before.before)).few_atoms refl, (few k, passed k.constant-fits.ensures c.if3.false)))
 
 with-code-requires : tie.Need-with-code-requires
 with-code-requires c κs =
     let l = c.before.before.before.before.before.before.before.before.before.before.args.laying in
-    rw c.before.with-numbers.ensures (room_for true l.nodes l.atoms l.depth (room c.before.before.before.before.before.before.before)).few_nodes
+    rw c.before.with-numbers.ensures (room_for_lem true l.nodes l.atoms l.depth (room c.before.before.before.before.before.before.before)).few_nodes
 
 returns-4 : tie.Need-returns-4
 returns-4 c =
