@@ -10,8 +10,7 @@ use borrow.Author.Rules.{rules}
 use Rattle.scope.specs.Sizes.{most_coefficient, most_value}
 use Rattle.theory.specs.Numbers.Magnitude.{fits_abs}
 use Rattle.judge.proofs.Products.{product_small}
-use Rattle.judge.proofs.product.Statement.{statement}
-use Rattle.judge.proofs.product.Tie as tie
+use Rattle.judge.proofs.product.Goals as goal
 
 record Sizes (a : ℤ) (x : ℕ) : Type 0 where
   wide : SFits w64 a
@@ -23,16 +22,14 @@ sizes a x h = record {
   wide = fits_abs w64 a (omega (arith, h.0));
   value = to_z_pos w64 x (omega (arith, h.1));
   whole = fits_abs w64 (a *ℤ pos x) (omega (arith, product_small a x h.0 h.1));
+
 }
 
-cast-result : tie.Need-overflow-cast-result
-cast-result c = let z = sizes c.args.a c.args.x c.requires in simp (to_z-of_z, c.ranges.a) z.wide
+pub overflow_cast-result : goal.overflow_cast-result
+overflow_cast-result c = let z = sizes c.args.a c.args.x c.requires in simp (to_z-of_z, c.ranges.a) z.wide
 
-mul-result : tie.Need-overflow-mul-result
-mul-result c = let z = sizes c.args.a c.args.x c.requires in simp (to_z-of_z, c.ranges.a, z.wide, z.value) z.whole
+pub overflow_mul-result : goal.overflow_mul-result
+overflow_mul-result c = let z = sizes c.args.a c.args.x c.requires in simp (to_z-of_z, c.ranges.a, z.wide, z.value) z.whole
 
-returns : tie.Need-returns
+pub returns : goal.returns
 returns c = let z = sizes c.args.a c.args.x c.requires in simp (to_z-of_z, c.ranges.a, z.wide, z.value, z.whole)
-
-pub product-spec : {M : Type 1} → statement M
-product-spec = tie.close (tie.spec cast-result (λ c. search rules) mul-result returns)

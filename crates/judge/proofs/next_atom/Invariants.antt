@@ -1,0 +1,15 @@
+use Prim.Native.Nat.{◌-◌, ◌≤◌}
+use native.Mathlib.Omega.{arith}
+use mathlib.Core.Path.{◌≡◌, refl, sym, ◌∙◌}
+use mathlib.Core.List.{map}
+use lib.ListN.{drop}
+use borrow.Author.Rules.{rules}
+use Rattle.scope.specs.Question.{node_of, kinds_of}
+use Rattle.judge.proofs.AtomKinds.{kinds_skip}
+use Rattle.judge.proofs.next_atom.Given as goal
+
+abbrev pub invariant-loop-at : goal.invariant-loop-at
+invariant-loop-at l = (l.at ≤ 64) × (kinds_of (drop l.from (map node_of l.codes)) ≡ kinds_of (drop l.at (map node_of l.codes)))
+
+abbrev pub decreases-loop-at : goal.decreases-loop-at
+decreases-loop-at l = 64 - l.at

@@ -1,0 +1,42 @@
+-- `judge::worths_of` meets its contract. The invariant: the atoms before a number are noted; the measure is how many are left. Assumes nothing.
+use native.Mathlib.Omega.{arith}
+use mathlib.Core.List.{map}
+use lib.ListN.{length, drop}
+use borrow.Author.Rules.{rules}
+use Rattle.scope.specs.Question.{node_of, kinds_of}
+use Rattle.judge.specs.Atoms.{question_for}
+use Rattle.judge.proofs.Noting.{WorthsNoted, noted_start, noted_more, noted_all, atom_within, atom_summable, fewer_left}
+use Rattle.judge.proofs.worths_of.Goals as goal
+
+pub holds-requires : goal.holds-requires
+holds-requires c =
+    let p = c.requires in
+    let t = c.loop-at-test.true in
+    (atom_within p c.loop-at.invariant t, atom_summable p c.loop-at.invariant t)
+
+pub bounds-worths-atom : goal.bounds-worths-atom
+bounds-worths-atom c = atom_within c.requires c.loop-at.invariant c.loop-at-test.true
+
+pub overflow_add-atom : goal.overflow_add-atom
+overflow_add-atom c = omega (arith, atom_within c.requires c.loop-at.invariant c.loop-at-test.true)
+
+pub next_atom-at-requires-in-loop-at : goal.next_atom-at-requires-in-loop-at
+next_atom-at-requires-in-loop-at c =
+    (c.requires.limits.sized.codes, omega (arith, c.loop-at-test.true))
+
+pub loop-at-smaller : goal.loop-at-smaller
+loop-at-smaller c =
+    fewer_left c.requires c.loop-at.invariant c.loop-at-test.true c.next_atom-at-in-loop-at.ensures
+
+pub loop-at-preserved : goal.loop-at-preserved
+loop-at-preserved c =
+    noted_more c.requires c.loop-at.invariant c.loop-at-test.true c.holds.result c.next_atom-at-in-loop-at.ensures c.holds.ensures
+
+pub returns : goal.returns
+returns c = noted_all c.requires c.loop-at.invariant c.loop-at-test.false
+
+pub next_atom-at-requires : goal.next_atom-at-requires
+next_atom-at-requires c = (c.requires.limits.sized.codes, omega arith)
+
+pub loop-at-init : goal.loop-at-init
+loop-at-init c = noted_start c.requires c.next_atom-at.ensures
