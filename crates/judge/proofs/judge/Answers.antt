@@ -1,6 +1,5 @@
 -- `judge::judge` meets its contract: what was read decides. Assumes nothing.
 use mathlib.Core.Path.{sym, ◌∙◌}
-use borrow.Author.Rules.{rules}
 use Rattle.judge.proofs.Judging.{judged_accepted, judged_refused, read_within}
 use Rattle.judge.proofs.judge.Goals as goal
 

@@ -1,8 +1,6 @@
 -- `judge::judge_question` meets its contract: each answer is that of the first check that fails. Assumes nothing.
 use mathlib.Core.Path.{sym, ◌∙◌}
 use mathlib.Core.Bool.{true, false}
-use borrow.Author.Rules.{rules}
-use Rattle.theory.specs.Numbers.Tests.{failed, passed}
 use Rattle.judge.proofs.Judging.{judged_miscounted, judged_large, judged_truth, judgeable}
 use Rattle.judge.proofs.judge_question.Goals as goal
 
@@ -12,16 +10,16 @@ returns-then-values-n c = c.refused.ensures ∙ sym (judged_miscounted _ _ c.if-
 pub returns-then-not-values_fit : goal.returns-then-not-values_fit
 returns-then-not-values_fit c =
     c.refused-then-not-values_fit.ensures ∙
-    sym (judged_large _ _ c.if-values-n.false (failed c.values_fit.ensures c.if-not-values_fit.true-raw))
+    sym (judged_large _ _ c.if-values-n.false (sym c.values_fit.ensures ∙ c.if-not-values_fit.true))
 
 pub satisfies-requires : goal.satisfies-requires
 satisfies-requires c =
-    judgeable c.args.q c.args.values.now c.requires c.if-values-n.false (passed c.values_fit.ensures c.if-not-values_fit.false-raw)
+    judgeable c.args.q c.args.values.now c.requires c.if-values-n.false (sym c.values_fit.ensures ∙ c.if-not-values_fit.false)
 
 pub returns-then-satisfies : goal.returns-then-satisfies
 returns-then-satisfies c =
-    sym (judged_truth _ _ true c.if-values-n.false (passed c.values_fit.ensures c.if-not-values_fit.false-raw) (sym c.satisfies.ensures ∙ c.if-satisfies.true))
+    sym (judged_truth _ _ true c.if-values-n.false (sym c.values_fit.ensures ∙ c.if-not-values_fit.false) (sym c.satisfies.ensures ∙ c.if-satisfies.true))
 
 pub returns : goal.returns
 returns c =
-    sym (judged_truth _ _ false c.if-values-n.false (passed c.values_fit.ensures c.if-not-values_fit.false-raw) (sym c.satisfies.ensures ∙ c.if-satisfies.false))
+    sym (judged_truth _ _ false c.if-values-n.false (sym c.values_fit.ensures ∙ c.if-not-values_fit.false) (sym c.satisfies.ensures ∙ c.if-satisfies.false))

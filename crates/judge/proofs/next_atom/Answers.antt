@@ -1,11 +1,6 @@
 -- `judge::next_atom` meets its contract. The invariant: the nodes passed have no kinds. Assumes nothing.
-use Prim.Native.Nat.{◌-◌, ◌≤◌}
 use native.Mathlib.Omega.{arith}
-use mathlib.Core.Path.{◌≡◌, refl, sym, ◌∙◌}
-use mathlib.Core.List.{map}
-use lib.ListN.{drop}
-use borrow.Author.Rules.{rules}
-use Rattle.scope.specs.Question.{node_of, kinds_of}
+use mathlib.Core.Path.{refl, sym, ◌∙◌}
 use Rattle.judge.proofs.AtomKinds.{kinds_skip}
 use Rattle.judge.proofs.next_atom.Goals as goal
 

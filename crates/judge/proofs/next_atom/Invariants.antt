@@ -1,11 +1,8 @@
 use Prim.Native.Nat.{◌-◌, ◌≤◌}
-use native.Mathlib.Omega.{arith}
-use mathlib.Core.Path.{◌≡◌, refl, sym, ◌∙◌}
+use mathlib.Core.Path.{◌≡◌}
 use mathlib.Core.List.{map}
 use lib.ListN.{drop}
-use borrow.Author.Rules.{rules}
 use Rattle.scope.specs.Question.{node_of, kinds_of}
-use Rattle.judge.proofs.AtomKinds.{kinds_skip}
 use Rattle.judge.proofs.next_atom.Given as goal
 
 abbrev pub invariant-loop-at : goal.invariant-loop-at

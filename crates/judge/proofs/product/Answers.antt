@@ -6,7 +6,6 @@ use lib.IntN.{ℤ, pos, nat_abs, ◌*ℤ◌}
 use mir.Syntax.{w64}
 use mir.Val.{SFits, to_z}
 use mir.ValLaws.{to_z-of_z, to_z_pos}
-use borrow.Author.Rules.{rules}
 use Rattle.scope.specs.Sizes.{most_coefficient, most_value}
 use Rattle.theory.specs.Numbers.Magnitude.{fits_abs}
 use Rattle.judge.proofs.Products.{product_small}
@@ -22,7 +21,6 @@ sizes a x h = record {
   wide = fits_abs w64 a (omega (arith, h.0));
   value = to_z_pos w64 x (omega (arith, h.1));
   whole = fits_abs w64 (a *ℤ pos x) (omega (arith, product_small a x h.0 h.1));
-
 }
 
 pub overflow_cast-result : goal.overflow_cast-result

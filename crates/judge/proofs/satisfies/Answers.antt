@@ -1,6 +1,5 @@
 -- `judge::satisfies` meets its contract. Assumes nothing.
 use mathlib.Core.Path.{sym, ap, ◌∙◌, subst}
-use borrow.Author.Rules.{rules}
 use Rattle.scope.specs.declared.Question.{Question}
 use Rattle.scope.specs.States.{satisfied}
 use Rattle.judge.specs.Atoms.{question_for, Judgeable}

@@ -1,5 +1,5 @@
 -- `judge::sum_at` meets its contract. The invariant: s is the sum from variable j on. Assumes nothing.
-use Prim.Native.Nat.{ℕ, suc, ◌+◌, ◌-◌, ◌≤◌, ◌<◌}
+use Prim.Native.Nat.{ℕ, suc, ◌+◌, ◌-◌, ◌<◌}
 use native.Mathlib.Omega.{arith}
 use mathlib.Core.Path.{◌≡◌, sym, ap, ◌∙◌, subst}
 use lib.ListN.{length, get_or, drop}
@@ -7,7 +7,6 @@ use lib.IntN.{pos, ◌+ℤ◌, ◌*ℤ◌}
 use mir.Syntax.{w64}
 use mir.Val.{SFits, to_z}
 use mir.ValLaws.{to_z-of_z}
-use borrow.Author.Rules.{rules}
 use Rattle.scope.specs.States.{dot}
 use Rattle.judge.specs.Sums.{coefficients_from}
 use Rattle.judge.proofs.Products.{sum_fits, sum_more, sum_none, coefficient_fits_lem}
@@ -36,8 +35,10 @@ module _ (c : goal.After-product-s) where
       let m : c.loop-j.j ≡ suc j = omega arith in
       let term : c.product-s.result ≡ get_or c.args.coefficients.now (c.args.at + j) (pos 0) *ℤ pos (get_or c.args.values.now j 0) = simp (to_z-of_z, coefficient_fits_lem p j n) at c.product-s.ensures in
       (λ i. term i +ℤ (c.loop-j.invariant.1 ∙ ap (λ (k : ℕ). dot (drop k row) (drop k c.args.values.now)) m) i) ∙ sym (sum_more p j n)
+
   term_fits : SFits w64 c.product-s.result
   term_fits = record { sfits = c.product-s.type_inv }
+
   total_fits : SFits w64 (c.product-s.result +ℤ to_z w64 c.loop-j.s-bits)
   total_fits = subst (SFits w64) (sym sum_is) (sum_fits c.requires (c.loop-j.j - 1))
 
@@ -54,12 +55,3 @@ returns c =
 
 pub loop-j-init : goal.loop-j-init
 loop-j-init c = (omega arith, sum_none c.requires)
-
-pub overflow_add-a : goal.overflow_add-a
-overflow_add-a c = omega (arith, c.requires.within)
-
-pub offset_bounds-coefficients-at : goal.offset_bounds-coefficients-at
-offset_bounds-coefficients-at c = omega (arith, c.requires.within)
-
-pub bounds-coefficients-at : goal.bounds-coefficients-at
-bounds-coefficients-at c = omega (arith, c.requires.within)

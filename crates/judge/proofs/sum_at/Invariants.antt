@@ -1,15 +1,8 @@
-use Prim.Native.Nat.{ℕ, suc, ◌+◌, ◌-◌, ◌≤◌, ◌<◌}
-use native.Mathlib.Omega.{arith}
-use mathlib.Core.Path.{◌≡◌, sym, ap, ◌∙◌, subst}
-use lib.ListN.{length, get_or, drop}
-use lib.IntN.{pos, ◌+ℤ◌, ◌*ℤ◌}
-use mir.Syntax.{w64}
-use mir.Val.{SFits, to_z}
-use mir.ValLaws.{to_z-of_z}
-use borrow.Author.Rules.{rules}
+use Prim.Native.Nat.{◌≤◌}
+use mathlib.Core.Path.{◌≡◌}
+use lib.ListN.{length, drop}
 use Rattle.scope.specs.States.{dot}
 use Rattle.judge.specs.Sums.{coefficients_from}
-use Rattle.judge.proofs.Products.{sum_fits, sum_more, sum_none, coefficient_fits_lem}
 use Rattle.judge.proofs.sum_at.Given as goal
 
 abbrev pub invariant-loop-j : goal.invariant-loop-j

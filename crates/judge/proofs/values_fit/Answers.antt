@@ -1,13 +1,7 @@
 -- `judge::values_fit` meets its contract. The invariant: the values from i on fit exactly if all do. Assumes nothing.
-use Prim.Native.Nat.{ℕ, ◌-◌, ◌≤◌}
 use native.Mathlib.Omega.{arith}
-use mathlib.Core.Path.{◌≡◌, refl, sym, ◌∙◌}
-use lib.ListN.{length, drop}
-use lib.Dec.{leb}
-use borrow.Author.Rules.{rules}
+use mathlib.Core.Path.{refl, sym, ◌∙◌}
 use borrow.Author.Tests.{le-leb, lt-leb}
-use Rattle.scope.specs.Whole.{all}
-use Rattle.scope.specs.Sizes.{most_value}
 use Rattle.theory.specs.Numbers.Tests.{all_more, all_fails, all_done}
 use Rattle.judge.proofs.values_fit.Goals as goal
 

@@ -1,13 +1,9 @@
 use Prim.Native.Nat.{ℕ, ◌-◌, ◌≤◌}
-use native.Mathlib.Omega.{arith}
-use mathlib.Core.Path.{◌≡◌, refl, sym, ◌∙◌}
+use mathlib.Core.Path.{◌≡◌}
 use lib.ListN.{length, drop}
 use lib.Dec.{leb}
-use borrow.Author.Rules.{rules}
-use borrow.Author.Tests.{le-leb, lt-leb}
 use Rattle.scope.specs.Whole.{all}
 use Rattle.scope.specs.Sizes.{most_value}
-use Rattle.theory.specs.Numbers.Tests.{all_more, all_fails, all_done}
 use Rattle.judge.proofs.values_fit.Given as goal
 
 abbrev pub invariant-loop-i : goal.invariant-loop-i

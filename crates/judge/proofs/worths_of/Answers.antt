@@ -1,11 +1,6 @@
 -- `judge::worths_of` meets its contract. The invariant: the atoms before a number are noted; the measure is how many are left. Assumes nothing.
 use native.Mathlib.Omega.{arith}
-use mathlib.Core.List.{map}
-use lib.ListN.{length, drop}
-use borrow.Author.Rules.{rules}
-use Rattle.scope.specs.Question.{node_of, kinds_of}
-use Rattle.judge.specs.Atoms.{question_for}
-use Rattle.judge.proofs.Noting.{WorthsNoted, noted_start, noted_more, noted_all, atom_within, atom_summable, fewer_left}
+use Rattle.judge.proofs.Noting.{noted_start, noted_more, noted_all, atom_within, atom_summable, fewer_left}
 use Rattle.judge.proofs.worths_of.Goals as goal
 
 pub holds-requires : goal.holds-requires

@@ -1,10 +1,8 @@
-use native.Mathlib.Omega.{arith}
 use mathlib.Core.List.{map}
 use lib.ListN.{length, drop}
-use borrow.Author.Rules.{rules}
 use Rattle.scope.specs.Question.{node_of, kinds_of}
 use Rattle.judge.specs.Atoms.{question_for}
-use Rattle.judge.proofs.Noting.{WorthsNoted, noted_start, noted_more, noted_all, atom_within, atom_summable, fewer_left}
+use Rattle.judge.proofs.Noting.{WorthsNoted}
 use Rattle.judge.proofs.worths_of.Given as goal
 
 abbrev pub invariant-loop-at : goal.invariant-loop-at
