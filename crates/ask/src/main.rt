@@ -5,8 +5,9 @@ ghost use Rattle.std.specs.Prelude.{◌≤◌, length};
 ghost use Rattle.told.specs.Text.{longest};
 ghost use Rattle.ask.specs.Asked.{Asked};
 
-use libc::{STDIN_FILENO, STDOUT_FILENO};
 use scope::Question;
+use std::io;
+use std::io::Write;
 
 // The bytes that decide.
 const QUESTION: usize = 1_024;
@@ -37,10 +38,10 @@ fn answer_to(question: &[u8], out: &mut [u8]) -> usize
     told::tell(question.n as usize, answer, &word, out)
 }
 
-fn main() {
+fn main(rt: HostRuntime) -> io::Result<()> {
     let mut question = [0u8; QUESTION];
-    let count = io::read_full(STDIN_FILENO, &mut question);
+    let count = input::read_full(&mut rt.stdin(), &mut question)?;
     let mut text = [0u8; TEXT];
     let length = answer_to(&question[..count], &mut text);
-    io::write_all(STDOUT_FILENO, &text[..length]);
+    rt.stdout().write_all(&text[..length])
 }

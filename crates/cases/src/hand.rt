@@ -5,6 +5,8 @@ use crate::judging::judged_none;
 use crate::tally::say;
 use compared::asked::{FOUND, NO_ROOM, REFUSED, Told, built, decided, same_told, tell};
 use compared::buffers::{BYTE_MARK, CELL_MARK, KEY_MARK, front_cells, front_keys, stretch};
+use std::io;
+use std::io::Write;
 
 const BYTES: usize = 256;
 
@@ -68,11 +70,11 @@ fn no_bytes() -> bool {
         & built_none(b"", KEYS, PATH, none)
 }
 
-pub fn run() {
+pub fn run<W: Write>(out: &mut W) -> io::Result<()> {
     let mut bytes = [0u8; BYTES];
     let len = written(coconuts(), &mut bytes);
     let given = stretch(&bytes, 0, len);
-    say(b"five coconut equations", found_one_letter(given));
-    say(b"no bytes at all", no_bytes());
-    say(b"no rows", no_rows(given));
+    say(out, "five coconut equations", found_one_letter(given))?;
+    say(out, "no bytes at all", no_bytes())?;
+    say(out, "no rows", no_rows(given))
 }

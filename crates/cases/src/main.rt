@@ -12,7 +12,10 @@ mod questions;
 mod running;
 mod tally;
 
-fn main() {
-    hand::run();
-    questions::run();
+use std::io;
+
+fn main(rt: HostRuntime) -> io::Result<()> {
+    let mut out = rt.stdout();
+    hand::run(&mut out)?;
+    questions::run(&mut out)
 }

@@ -17,6 +17,8 @@ use search::held::question_of;
 use search::plain::POWER;
 use search::sheet::{SEED, SHEET, atoms};
 use search::tried::large_tuple;
+use std::io;
+use std::io::Write;
 
 const VARIABLES: u64 = Question::VARIABLES as u64;
 
@@ -28,7 +30,13 @@ const QUESTIONS: u64 = 20 * VARIABLES * ATOMS;
 const BYTES: usize = 512;
 
 // Compares what the calls say of a question's bytes, and answers the next seed.
-fn compare(number: u64, q: &[u64; SHEET], bytes: &[u8], counts: &mut [u64; KINDS]) -> u64 {
+fn compare<W: Write>(
+    out: &mut W,
+    number: u64,
+    q: &[u64; SHEET],
+    bytes: &[u8],
+    counts: &mut [u64; KINDS],
+) -> io::Result<u64> {
     let mut word = [BYTE_MARK; ROWS];
     let told = decided_in(bytes, atoms(q), ROWS, &mut word);
     let found = stretch(&word, 0, told.letters);
@@ -36,39 +44,42 @@ fn compare(number: u64, q: &[u64; SHEET], bytes: &[u8], counts: &mut [u64; KINDS
     let decided = decided_amounts(q, bytes, told, found, few);
     let built = built_amounts(q, bytes, told, found, few);
     let large = large_tuple(built[5]);
-    add_all(counts, number, tally::DECIDED, &decided);
-    add_all(counts, number, tally::BUILT, first_values(&built, 5));
-    add(
-        counts,
-        number,
-        tally::JUDGED,
-        where_right(judged(q, bytes, &large), 0),
-    );
-    large[POWER]
+    add_all(out, counts, number, tally::DECIDED, &decided)?;
+    add_all(out, counts, number, tally::BUILT, first_values(&built, 5))?;
+    let amount = where_right(judged(q, bytes, &large), 0);
+    add(out, counts, number, tally::JUDGED, amount)?;
+    Ok(large[POWER])
 }
 
 // Draws a question with n variables and m atoms, writes it, reads it back, and compares.
-fn ask(number: u64, n: usize, m: usize, seed: u64, counts: &mut [u64; KINDS]) -> u64
+fn ask<W: Write>(
+    out: &mut W,
+    number: u64,
+    n: usize,
+    m: usize,
+    seed: u64,
+    counts: &mut [u64; KINDS],
+) -> io::Result<u64>
     requires { n ≤ 6 }
 {
     let q = draw(n, m, seed);
     let mut bytes = [0u8; BYTES];
     let len = written(question_of(&q), &mut bytes);
     let same = reads_back(stretch(&bytes, 0, len), question_of(&q));
-    add(counts, number, tally::QUESTIONS, where_right(same, 1));
-    compare(number, &q, stretch(&bytes, 0, len), counts)
+    add(out, counts, number, tally::QUESTIONS, where_right(same, 1))?;
+    compare(out, number, &q, stretch(&bytes, 0, len), counts)
 }
 
 // Asks every question and prints the counts.
-pub fn run() {
+pub fn run<W: Write>(out: &mut W) -> io::Result<()> {
     let mut counts = [0u64; KINDS];
     let mut seed = 20_260_101;
     let mut number = 0;
     while number < QUESTIONS {
         let n = (number % VARIABLES) as usize + 1;
         let m = (number / VARIABLES % ATOMS) as usize + 1;
-        seed = ask(number, n, m, seed, &mut counts);
+        seed = ask(out, number, n, m, seed, &mut counts)?;
         number += 1;
     }
-    tally::print_counts(&counts);
+    tally::print_counts(out, &counts)
 }

@@ -8,9 +8,10 @@ ghost use Rattle.smt.specs.Solved.{said_in, QuestionPut, HeldSaid, Solved};
 
 use decide::decide;
 use importing::import;
-use libc::{STDIN_FILENO, STDOUT_FILENO};
 use said::say;
 use scope::{DecideAnswer, Question, ReadAnswer, WriteAnswer};
+use std::io;
+use std::io::Write;
 use writing::write;
 
 // The bytes of a text that is decided.
@@ -88,10 +89,10 @@ fn answer_to(text: &[u8], out: &mut [u8]) -> usize
     decide_held(text, &names, held.question, out)
 }
 
-fn main() {
+fn main(rt: HostRuntime) -> io::Result<()> {
     let mut text = [0u8; TEXT + 1];
-    let count = io::read_full(STDIN_FILENO, &mut text);
+    let count = input::read_full(&mut rt.stdin(), &mut text)?;
     let mut out = [0u8; OUT];
     let length = answer_to(&text[..count], &mut out);
-    io::write_all(STDOUT_FILENO, &out[..length]);
+    rt.stdout().write_all(&out[..length])
 }

@@ -33,7 +33,7 @@ pub fn word_right(told: &[u8], answer: Told, letters: &[u8; LETTERS]) -> bool {
     }
     let list = part(told, 2);
     let wanted = letters_in(list);
-    (items(list) == answer.letters) & check::same(&wanted, letters)
+    (items(list) == answer.letters) & (wanted == *letters)
 }
 
 // The names and lists behind a verdict and its numbers.

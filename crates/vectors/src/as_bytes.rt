@@ -90,7 +90,7 @@ pub fn import_right(line: &[u8], text: &[u8]) -> bool {
 // Whether bytes are those of a text in hexadecimal.
 fn same_bytes(text: &[u8], bytes: &[u8]) -> bool {
     let wanted = bytes_in(text);
-    is_hex(text) & check::same(stretch(&wanted, 0, text.len() / 2), bytes)
+    is_hex(text) & (stretch(&wanted, 0, text.len() / 2) == bytes)
 }
 
 // Whether a buffer has the bytes told, and marks beyond.

@@ -33,7 +33,7 @@ fn text_on(hash: u64, text: &[u8]) -> u64 {
 
 fn digits_on(hash: u64, number: u64) -> u64 {
     let mut digits = [0u8; 20];
-    let n = io::decimal(number, &mut digits);
+    let n = told::put_decimal(number, &mut digits, 0);
     text_on(hash, &digits[..n])
 }
 
@@ -67,14 +67,35 @@ fn cell_on(list: &[u8], known: u64, i: usize, number: u64) -> u64 {
     if item(list, i) == number { known } else { NONE }
 }
 
+// A digit of a number in hexadecimal.
+fn hex_digit(digit: u64) -> u8
+    requires { digit < 16 }
+{
+    if digit < 10 {
+        b'0' + digit as u8
+    } else {
+        b'a' + (digit - 10) as u8
+    }
+}
+
+// A number's sixteen digits in hexadecimal.
+fn hex_of(number: u64) -> [u8; 16] {
+    let mut digits = [0u8; 16];
+    let mut left = number;
+    for digit in digits.iter_mut().rev() {
+        *digit = hex_digit(left % 16);
+        left /= 16;
+    }
+    digits
+}
+
 // Whether that is what is told.
 fn is_known(list: &[u8], known: u64) -> bool {
     if !is_hashed(list) {
         return known == BASIS;
     }
-    let mut digits = [0u8; 16];
-    let n = io::hex(known, 16, &mut digits);
-    check::same(word(list, 1, b':'), &digits[..n])
+    let digits = hex_of(known);
+    word(list, 1, b':') == &digits[..]
 }
 
 // A key cell as a number is told: one below zero by that and its size.

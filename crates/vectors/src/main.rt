@@ -14,36 +14,33 @@ mod spelling;
 mod tally;
 
 use compared::buffers::stretch;
-use libc::STDOUT_FILENO;
+use std::fs::File;
+use std::io;
+use std::io::Write;
 
 // The most bytes of a file of vectors.
 const TEXT: usize = 500_000;
 
 // Runs the vectors of an open file.
-fn run_open(file: i32) {
+fn run_open<W: Write>(out: &mut W, file: &mut File) -> io::Result<()> {
     let mut text = [0u8; TEXT];
-    let n = io::read_full(file, &mut text);
+    let n = input::read_full(file, &mut text)?;
     if n == TEXT {
-        io::write_all(STDOUT_FILENO, b"too long\n");
+        out.write_all(b"too long\n")
     } else {
-        tally::run(stretch(&text, 0, n));
+        tally::run(out, stretch(&text, 0, n))
     }
 }
 
-fn run_file(name: &[u8]) {
-    let file = os::open_read(name);
-    if file < 0 {
-        os::fail(name);
-        return;
-    }
-    io::write_all(STDOUT_FILENO, name);
-    io::write_all(STDOUT_FILENO, b":\n");
-    run_open(file);
-    libc::close(file);
+fn run_file(rt: &HostRuntime, name: &str) -> io::Result<()> {
+    let mut file = File::open(rt, name)?;
+    let mut out = rt.stdout();
+    writeln!(out, "{name}:")?;
+    run_open(&mut out, &mut file)
 }
 
-fn main() {
-    run_file(b"base.txt");
-    run_file(b"e1.txt");
-    run_file(b"e2.txt");
+fn main(rt: HostRuntime) -> io::Result<()> {
+    run_file(&rt, "base.txt")?;
+    run_file(&rt, "e1.txt")?;
+    run_file(&rt, "e2.txt")
 }

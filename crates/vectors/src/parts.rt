@@ -17,7 +17,7 @@ pub fn part_number(line: &[u8], k: usize) -> u64 {
 // The word's digits in hexadecimal; none where it is a dash.
 pub fn hex_part<'a>(line: &'a [u8], k: usize) -> &'a [u8] {
     let text = part(line, k);
-    if check::same(text, b"-") {
+    if text == b"-" {
         stretch(text, 0, 0)
     } else {
         text
@@ -26,7 +26,7 @@ pub fn hex_part<'a>(line: &'a [u8], k: usize) -> &'a [u8] {
 
 // Whether it is a name.
 pub fn is_named(line: &[u8], k: usize, name: &[u8]) -> bool {
-    check::same(part(line, k), name)
+    part(line, k) == name
 }
 
 // The place of a name in so many names; past them where it is none.

@@ -9,7 +9,8 @@ use crate::rows::{build_rows_right, decide_rows_right};
 use crate::spelling::spell_right;
 use compared::buffers::stretch;
 use compared::text::word;
-use libc::STDOUT_FILENO;
+use std::io;
+use std::io::Write;
 
 // The kinds of line, by number: the calls, then deciding and building as base.txt has them, in rows, importing, and the last for a line of no kind.
 // The counts of right lines come first, and then those of wrong ones.
@@ -65,62 +66,56 @@ fn is_right(kind: usize, line: &[u8]) -> bool {
     }
 }
 
-fn say_wrong(number: usize) {
-    io::write_all(STDOUT_FILENO, b"wrong: line ");
-    io::print_decimal(STDOUT_FILENO, number as u64);
-    io::write_all(STDOUT_FILENO, b"\n");
+fn say_wrong<W: Write>(out: &mut W, number: usize) -> io::Result<()> {
+    writeln!(out, "wrong: line {number}")
 }
 
 // Runs a line, and answers where it is counted.
-fn run_line(line: &[u8], number: usize) -> usize {
+fn run_line<W: Write>(out: &mut W, line: &[u8], number: usize) -> io::Result<usize> {
     let kind = kind_of(line) % KINDS;
     if is_right(kind, line) {
-        return kind;
+        return Ok(kind);
     }
-    say_wrong(number);
-    kind + KINDS
+    say_wrong(out, number)?;
+    Ok(kind + KINDS)
 }
 
-fn print_name(kind: usize) {
+fn print_name<W: Write>(out: &mut W, kind: usize) -> io::Result<()> {
     let names = b"read write record judge spell ask decide build decide build import other";
-    io::write_all(STDOUT_FILENO, part(names, kind));
-    io::write_all(STDOUT_FILENO, b" ");
+    out.write_all(part(names, kind))?;
+    out.write_all(b" ")
 }
 
-fn print_counts(right: usize, wrong: usize) {
-    io::print_decimal(STDOUT_FILENO, right as u64);
-    io::write_all(STDOUT_FILENO, b" right, ");
-    io::print_decimal(STDOUT_FILENO, wrong as u64);
-    io::write_all(STDOUT_FILENO, b" wrong\n");
+fn print_counts<W: Write>(out: &mut W, right: usize, wrong: usize) -> io::Result<()> {
+    writeln!(out, "{right} right, {wrong} wrong")
 }
 
 // A kind that a file has no line of is passed over.
-fn print_kind(kind: usize, right: usize, wrong: usize) {
+fn print_kind<W: Write>(out: &mut W, kind: usize, right: usize, wrong: usize) -> io::Result<()> {
     if (right == 0) & (wrong == 0) {
-        return;
+        return Ok(());
     }
-    print_name(kind);
-    print_counts(right, wrong);
+    print_name(out, kind)?;
+    print_counts(out, right, wrong)
 }
 
-fn print_kinds(counts: [usize; COUNTS]) {
-    let mut kind = 0;
-    while kind < KINDS {
-        print_kind(kind, counts[kind], counts[kind + KINDS]);
-        kind += 1;
+fn print_kinds<W: Write>(out: &mut W, counts: [usize; COUNTS]) -> io::Result<()> {
+    for kind in 0..KINDS {
+        print_kind(out, kind, counts[kind], counts[kind + KINDS])?;
     }
+    Ok(())
 }
 
 // Runs every line of a text and prints the counts.
-pub fn run(text: &[u8]) {
+pub fn run<W: Write>(out: &mut W, text: &[u8]) -> io::Result<()> {
     let mut counts = [0usize; COUNTS];
     let lines = marks(text, b'\n');
     let mut number = 0;
     while number < lines {
         let line = word(text, number, b'\n');
         number += 1;
-        let cell = run_line(line, number) % COUNTS;
+        let cell = run_line(out, line, number)? % COUNTS;
         counts[cell] = plus_if(true, counts[cell]);
     }
-    print_kinds(counts);
+    print_kinds(out, counts)
 }
