@@ -1,5 +1,4 @@
 -- `table::next_state` meets its contract: the key that is looked up is the row's target. Assumes nothing.
-use borrow.Author.Rules.{rules}
 use Rattle.table.proofs.next_state.Goals as goal
 
 pub find-requires : goal.find-requires

@@ -1,11 +1,9 @@
 -- `table::write_row` meets its contract. The invariant: the mark and the next states of the letters passed are written. The measure is letters
 -- less `letter`. Assumes nothing.
 use mathlib.Core.Path.{sym, ◌∙◌}
-use Prim.Native.Nat.{◌-◌}
 use native.Mathlib.Omega.{arith}
-use borrow.Author.Rules.{rules}
 use Rattle.table.specs.Tabling.{row_room, letter_steps}
-use Rattle.table.specs.Row.{Begun, mark_written, next_written, row_written}
+use Rattle.table.specs.Row.{mark_written, next_written, row_written}
 use Rattle.table.proofs.write_row.Goals as goal
 
 pub load_row-from-requires : goal.load_row-from-requires

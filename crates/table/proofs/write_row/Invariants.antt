@@ -1,9 +1,5 @@
-use mathlib.Core.Path.{sym, ◌∙◌}
 use Prim.Native.Nat.{◌-◌}
-use native.Mathlib.Omega.{arith}
-use borrow.Author.Rules.{rules}
-use Rattle.table.specs.Tabling.{row_room, letter_steps}
-use Rattle.table.specs.Row.{Begun, mark_written, next_written, row_written}
+use Rattle.table.specs.Row.{Begun}
 use Rattle.table.proofs.write_row.Given as goal
 
 abbrev pub invariant-loop-letter : goal.invariant-loop-letter

@@ -3,11 +3,10 @@
 use mathlib.Core.Path.{◌∙◌}
 use Prim.Native.Nat.{◌+◌, ◌*◌, ◌-◌, ◌≤◌}
 use native.Mathlib.Omega.{arith}
-use borrow.Author.Rules.{rules}
 use lib.ListN.{length, length-take, length-drop}
 use borrow.Rule.Slice.PartMut.{same_len_mid}
 use Rattle.index.specs.Rows.{row_end}
-use Rattle.table.specs.Table.{RowsWritten, no_row_written, row_more, all_rows_written}
+use Rattle.table.specs.Table.{no_row_written, row_more, all_rows_written}
 use Rattle.table.proofs.write_rows.Goals as goal
 use Rattle.table.proofs.write_rows.Goals.{In-loop-row}
 
