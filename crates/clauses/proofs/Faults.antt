@@ -2,12 +2,11 @@
 use Prim.Native.Nat.{ℕ, suc, ◌≤◌, ◌<◌}
 use native.Mathlib.Omega.{arith}
 use mathlib.Core.Path.{◌≡◌, refl, sym, ap, ◌∙◌}
-use mathlib.Core.Bool.{true, cond}
+use mathlib.Core.Bool.{cond}
 use mathlib.Core.Option.{some}
 use mathlib.Core.List.{List, [], ◌∷◌, ◌++◌, append-nil}
-use lib.Dec.{ltb}
 use lib.ListN.{length}
-use borrow.Author.Tests.{ltb-true, ne_eqb}
+use borrow.Author.Tests.{ne_eqb}
 use Rattle.smtlib.specs.Forms.{Forms, nothing, word, list}
 use Rattle.smtlib.specs.Terms.{Relation, equal, at_most, below, at_least, above, Head, plus, minus, times, compare, negation, conjunction, disjunction, other_head, head_of, Term}
 use Rattle.smtlib.specs.Formulas.{Formula, Clause, outside_clause, comparison, compared, faults_among, negated, joining, list_clause, clauses_of}
@@ -85,8 +84,8 @@ NoFormula code = (3 ≤ code) × (code ≤ 10) → ⊥
 pub low_code_outside : (code : ℕ) → code < 3 → NoFormula code
 low_code_outside code l h = omega (arith, l, h.0)
 
-pub high_code_outside : (code : ℕ) → ltb 10 code ≡ true → NoFormula code
-high_code_outside code e h = omega (arith, ltb-true 10 code e, h.1)
+pub high_code_outside : (code : ℕ) → 10 < code → NoFormula code
+high_code_outside code l h = omega (arith, l, h.1)
 
 other_list_outside : (h : Head) (at : ℕ) (ts : List Term) (cs : List Clause) → NoFormula (head_code h) → list_clause h at ts cs ≡ outside_clause at
 unfolding list_clause
