@@ -39,7 +39,7 @@ room_for_lem isAn nodes atoms depth e =
 -- ---- connectives
 
 record ConnectiveCode (code : ℕ) : Type 0 where
-  no_atom_lem : is_atom (node_of code) ≡ false
+  no_atom : is_atom (node_of code) ≡ false
   same_code : code_of (node_of code) ≡ code
 
 connective_code : (code : ℕ) → 3 ≤ code → code ≤ 5 → ConnectiveCode code

@@ -1,18 +1,13 @@
 -- The proof of the cycle of calls {lay_from, lay_joined}. `lay_from` at nesting k calls `lay_joined` at k - 1, which calls `lay_from` at its own nesting,
 -- in its loop: the measure is 2k for `lay_from` and 2k + 1 for `lay_joined`. The loop's invariant: what is still to be laid gives the whole. Its measure is
 -- the bytes left. Assumes nothing.
-use Prim.Native.Nat.{ℕ, ◌+◌, ◌-◌, ◌<◌, ◌≤◌}
+use Prim.Native.Nat.{◌-◌, ◌<◌}
 use native.Mathlib.Omega.{arith}
-use mathlib.Core.Logic.{⊎_elim}
-use lib.ListN.{length}
-use borrow.Author.Rules.{rules}
-use borrow.Author.Tests.{not-true, not-false, eqb-true, eqb-false}
-use borrow.Fn.Kinds.{In}
-use borrow.Fn.PlainCycle.{Measures, is, falls, and}
 use Rattle.smtlib.specs.Lexicon.{most_nesting}
 use Rattle.terms.specs.Names.{names_in}
-use Rattle.laying.proofs.LaidLists.{headed_here, nesting_left, parts_inside, head_least, sides_clause, parts_sound, parts_ready, negation_refused, join_code_bounds, parts_clause, PartsOnward, parts_begun, part_faultless, part_further, begun_ready, join_stopped, last_laid, part_stopped, parts_onward}
+use Rattle.laying.proofs.LaidLists.{headed_here, nesting_left, parts_inside, head_least, sides_clause, parts_sound, parts_ready, negation_refused, join_code_bounds, parts_clause, parts_begun, part_faultless, part_further, begun_ready, join_stopped, last_laid, part_stopped, parts_onward}
 use Rattle.laying.proofs.+lay_from_lay_joined.Goals as goal
+use Rattle.laying.proofs.+lay_from_lay_joined.Goals.{lay_joined-then-end-via-then-end, lay_joined-then-end-via-else-end+then-more-ne0}
 
 pub lay_from-list_at-list-requires : goal.lay_from-list_at-list-requires
 lay_from-list_at-list-requires t c =
@@ -47,7 +42,7 @@ lay_from-returns-then-begun-ne0 t c =
     let pre = c.requires in
     let names = names_in c.args.text.now c.args.names.now c.args.count in
     let g = headed_here names pre.1.0 c.list_at-list.ensures.starts pre.1.1.1 in
-    let refused = c.if-begun-ne0.taken in
+    let refused = c.if-begun-ne0.true in
     rw c.laid_at.ensures (record { inside = (pre.1.0.here, λ z. absurd (refused z)); laid = negation_refused pre.1.0 g (omega arith) c.args.laying _ pre.1.1.0 c.deepen_if-begun.ensures c.args.at refused })
 
 pub lay_from-lay_joined-parts-requires : goal.lay_from-lay_joined-parts-requires
@@ -55,7 +50,7 @@ lay_from-lay_joined-parts-requires t c =
     let pre = c.requires in
     let names = names_in c.args.text.now c.args.names.now c.args.count in
     let g = headed_here names pre.1.0 c.list_at-list.ensures.starts pre.1.1.1 in
-    ( omega (arith, nesting_left pre.1.0 g), ( pre.0, ( parts_inside pre.1.0 g c.list_at-list.ensures.inside, ( parts_ready pre.1.0 g (omega arith) c.args.laying c.deepen_if-begun.result pre.1.1.0 c.deepen_if-begun.ensures c.if-begun-ne0.left, (rw c.join_code-code.ensures (join_code_bounds c.list_at-list.result.code), parts_sound pre.1.0 g (omega arith) c.args.laying c.deepen_if-begun.result pre.1.1.0 c.deepen_if-begun.ensures), ), ), ), )
+    (omega (arith, nesting_left pre.1.0 g), (pre.0, (parts_inside pre.1.0 g c.list_at-list.ensures.inside, (parts_ready pre.1.0 g (omega arith) c.args.laying c.deepen_if-begun.result pre.1.1.0 c.deepen_if-begun.ensures c.if-begun-ne0.false, (rw c.join_code-code.ensures (join_code_bounds c.list_at-list.result.code), parts_sound pre.1.0 g (omega arith) c.args.laying c.deepen_if-begun.result pre.1.1.0 c.deepen_if-begun.ensures)))))
 
 pub lay_from-returns : goal.lay_from-returns
 lay_from-returns t c =
@@ -89,24 +84,36 @@ pub lay_joined-lay_from-part-requires : goal.lay_joined-lay_from-part-requires
 lay_joined-lay_from-part-requires t c =
     let pre = c.requires in
     let j = c.loop-end.invariant.1.1 in
-    ( omega arith, ( pre.0, ( record { here = c.loop-end.invariant.1.0; left = pre.1.0.left; unbroken = j.unbroken }, (begun_ready j c.part_end-end.result c.deepen_if-begun.result (omega (arith, pre.1.0.left)) pre.1.1.1.0.0 pre.1.1.1.0.1 c.part_end-end.ensures.ends c.deepen_if-begun.ensures c.if-begun-ne0.false, part_faultless j), ), ), )
+    (omega arith, (pre.0, (record { here = c.loop-end.invariant.1.0; left = pre.1.0.left; unbroken = j.unbroken }, (begun_ready j c.part_end-end.result c.deepen_if-begun.result (omega (arith, pre.1.0.left)) pre.1.1.1.0.0 pre.1.1.1.0.1 c.part_end-end.ensures.ends c.deepen_if-begun.ensures c.if-begun-ne0.false, part_faultless j))))
 
 pub lay_joined-returns-then-end : goal.lay_joined-returns-then-end
 lay_joined-returns-then-end t c =
     let pre = c.requires in
     let j = c.loop-end.invariant.1.1 in
     let z = c.if-begun-ne0.false in
-    let further = part_further j c.part_end-end.result c.deepen_if-begun.result (omega (arith, pre.1.0.left)) pre.1.1.1.0.0 pre.1.1.1.0.1 c.part_end-end.ensures.ends c.deepen_if-begun.ensures in
-    rw c.laid_at-then-end.ensures (record { inside = (c.part_end-end.ensures.inside, λ y. omega (arith, further, c.loop-end.invariant.0)); laid = ⊎_elim (λ w. last_laid j c.part_end-end.result c.deepen_if-begun.result (omega (arith, pre.1.0.left)) pre.1.1.1.0.0 pre.1.1.1.0.1 c.part_end-end.ensures.ends c.deepen_if-begun.ensures z c.lay_from-part.result c.lay_from-part.ensures.laid w.taken) (λ w. part_stopped j c.part_end-end.result c.deepen_if-begun.result (omega (arith, pre.1.0.left)) pre.1.1.1.0.0 pre.1.1.1.0.1 c.part_end-end.ensures.ends c.deepen_if-begun.ensures z c.lay_from-part.result c.lay_from-part.ensures.laid (eqb-false _ 0 (not-true _ w.2.taken))) c.then-end.branch })
+    let inside : 0 < most_nesting - c.args.nesting = omega (arith, pre.1.0.left) in
+    let low = pre.1.1.1.0.0 in
+    let high = pre.1.1.1.0.1 in
+    let ends = c.part_end-end.ensures.ends in
+    let d = c.deepen_if-begun.ensures in
+    let part = c.lay_from-part.ensures.laid in
+    let further = part_further j c.part_end-end.result c.deepen_if-begun.result inside low high ends d in
+    rw c.laid_at-then-end.ensures (record {
+      inside = (c.part_end-end.ensures.inside, λ y. omega (arith, further, c.loop-end.invariant.0));
+      laid = elim c.then-end.branch [
+        | lay_joined-then-end-via-then-end w ↦ last_laid j c.part_end-end.result c.deepen_if-begun.result inside low high ends d z c.lay_from-part.result part w.if-end.true
+        | lay_joined-then-end-via-else-end+then-more-ne0 w ↦ part_stopped j c.part_end-end.result c.deepen_if-begun.result inside low high ends d z c.lay_from-part.result part w.if-more-ne0.true
+      ];
+    })
 
 pub lay_joined-loop-end-smaller : goal.lay_joined-loop-end-smaller
 lay_joined-loop-end-smaller t c =
-    omega (arith, c.lay_from-part.ensures.inside.1 (eqb-true c.lay_from-part.result.laying.refusal.number 0 c.if-more-ne0.false))
+    omega (arith, c.lay_from-part.ensures.inside.1 c.if-more-ne0.false)
 
 pub lay_joined-loop-end-preserved : goal.lay_joined-loop-end-preserved
 lay_joined-loop-end-preserved t c =
     let pre = c.requires in
     let j = c.loop-end.invariant.1.1 in
-    let y = eqb-true c.lay_from-part.result.laying.refusal.number 0 c.if-more-ne0.false in
+    let y = c.if-more-ne0.false in
     let further = c.lay_from-part.ensures.inside.1 y in
     (omega (arith, further), (c.lay_from-part.ensures.inside.0, parts_onward j c.part_end-end.result c.deepen_if-begun.result (omega (arith, pre.1.0.left)) pre.1.1.1.0.0 pre.1.1.1.0.1 c.part_end-end.ensures.ends c.deepen_if-begun.ensures c.if-begun-ne0.false c.lay_from-part.result c.lay_from-part.ensures.laid c.if-end.false y))

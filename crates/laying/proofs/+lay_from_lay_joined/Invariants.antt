@@ -1,21 +1,15 @@
-use Prim.Native.Nat.{ℕ, ◌+◌, ◌-◌, ◌<◌, ◌≤◌}
-use native.Mathlib.Omega.{arith}
-use mathlib.Core.Logic.{⊎_elim}
+use Prim.Native.Nat.{◌+◌, ◌-◌, ◌≤◌}
 use lib.ListN.{length}
-use borrow.Author.Rules.{rules}
-use borrow.Author.Tests.{not-true, not-false, eqb-true, eqb-false}
-use borrow.Fn.Kinds.{In}
-use borrow.Fn.PlainCycle.{Measures, is, falls, and}
 use Rattle.smtlib.specs.Lexicon.{most_nesting}
 use Rattle.terms.specs.Names.{names_in}
-use Rattle.laying.proofs.LaidLists.{headed_here, nesting_left, parts_inside, head_least, sides_clause, parts_sound, parts_ready, negation_refused, join_code_bounds, parts_clause, PartsOnward, parts_begun, part_faultless, part_further, begun_ready, join_stopped, last_laid, part_stopped, parts_onward}
+use Rattle.laying.proofs.LaidLists.{PartsOnward}
 use Rattle.laying.proofs.+lay_from_lay_joined.Given as goal
 
 abbrev pub decreases-lay_from : goal.decreases-lay_from
-decreases-lay_from l = ?
+decreases-lay_from l = l.nesting + l.nesting
 
 abbrev pub decreases-lay_joined : goal.decreases-lay_joined
-decreases-lay_joined l = ?
+decreases-lay_joined l = l.nesting + l.nesting + 1
 
 abbrev pub invariant-lay_joined-loop-end : goal.invariant-lay_joined-loop-end
 invariant-lay_joined-loop-end l =

@@ -1,5 +1,4 @@
 -- `laying::laid_at` meets its contract.
-use borrow.Author.Rules.{rules}
 use mathlib.Core.Path.{refl}
 use Rattle.laying.proofs.laid_at.Goals as goal
 

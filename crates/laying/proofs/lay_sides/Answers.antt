@@ -1,5 +1,4 @@
 -- `laying::lay_sides` meets its contract.
-use borrow.Author.Rules.{rules}
 use Prim.Native.Nat.{◌-◌}
 use Rattle.smtlib.specs.Lexicon.{most_nesting}
 use Rattle.terms.specs.Names.{names_in}

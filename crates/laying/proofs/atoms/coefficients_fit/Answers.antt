@@ -1,14 +1,11 @@
 -- `laying::atoms::coefficients_fit` meets its contract: those from i on decide.
 use mathlib.Core.Path.{◌≡◌, refl, sym, ◌∙◌}
-use Prim.Native.Nat.{◌-◌, ◌≤◌}
 use native.Mathlib.Omega.{arith}
-use borrow.Author.Rules.{rules}
-use lib.ListN.{get_or, drop}
+use lib.ListN.{get_or}
 use mir.Syntax.{w64}
 use mir.ValLaws.{to_z-of_z}
 use lib.IntN.{pos}
 use Rattle.scope.specs.Sizes.{coefficient_fits}
-use Rattle.scope.specs.Whole.{all}
 use Rattle.theory.specs.Numbers.Tests.{failed, passed, all_more, all_fails, all_done}
 use Rattle.laying.proofs.atoms.coefficients_fit.Goals as goal
 use Rattle.laying.proofs.atoms.coefficients_fit.Goals.{After-coefficient_fits}

@@ -1,14 +1,8 @@
-use mathlib.Core.Path.{◌≡◌, refl, sym, ◌∙◌}
+use mathlib.Core.Path.{◌≡◌}
 use Prim.Native.Nat.{◌-◌, ◌≤◌}
-use native.Mathlib.Omega.{arith}
-use borrow.Author.Rules.{rules}
-use lib.ListN.{get_or, drop}
-use mir.Syntax.{w64}
-use mir.ValLaws.{to_z-of_z}
-use lib.IntN.{pos}
+use lib.ListN.{drop}
 use Rattle.scope.specs.Sizes.{coefficient_fits}
 use Rattle.scope.specs.Whole.{all}
-use Rattle.theory.specs.Numbers.Tests.{failed, passed, all_more, all_fails, all_done}
 use Rattle.laying.proofs.atoms.coefficients_fit.Given as goal
 
 abbrev pub invariant-loop-i : goal.invariant-loop-i

@@ -1,7 +1,6 @@
 -- `laying::atoms::lay_atom` meets its contract.
-use borrow.Author.Rules.{rules}
 use native.Mathlib.Omega.{arith}
-use mathlib.Core.Path.{◌≡◌, refl, ◌∙◌}
+use mathlib.Core.Path.{◌≡◌, refl, sym, ◌∙◌}
 use mathlib.Core.Bool.{true}
 use lib.ListN.{get_or, drop}
 use lib.IntN.{pos, neg_ℤ}
@@ -11,7 +10,6 @@ use mir.ValLaws.{to_z-of_z}
 use Rattle.scope.specs.Whole.{all}
 use Rattle.scope.specs.Sizes.{coefficient_fits}
 use Rattle.smtlib.specs.Formulas.{lowered}
-use Rattle.theory.specs.Numbers.Tests.{failed, passed}
 use Rattle.laying.specs.Laid.{node_room}
 use Rattle.laying.specs.Noted.{relation_of}
 use Rattle.laying.proofs.OneNode.{room_for_lem, no_room_lem, coefficient_beyond, constant_beyond, comparison_laid_lem}
@@ -40,6 +38,7 @@ constant_for-constant-requires c =
 module _ (c : goal.After-constant_fits) where
   few : all coefficient_fits (drop 1 c.args.numbers) ≡ true
   few = sym c.coefficients_fit.ensures ∙ c.if-not-coefficients_fit.false
+
   constant : to_z w64 (of_z w64 c.constant_for-constant.result) ≡ lowered (relation_of c.args.head) (neg_ℤ (get_or c.args.numbers 0 (pos 0)))
   constant = to_z-of_z w64 _ (record { sfits = c.constant_for-constant.type_inv }) ∙ rw (to_z-of_z w64 _ (record { sfits = c.constant_for-arg-1.given })) at c.constant_for-constant.ensures
 

@@ -1,5 +1,4 @@
 -- `laying::atoms::with_numbers` meets its contract.
-use borrow.Author.Rules.{rules}
 use mathlib.Core.Path.{◌≡◌, refl, ◌∙◌}
 use Prim.Native.Nat.{◌*◌}
 use lib.ListN.{take, drop}

@@ -1,15 +1,14 @@
 -- `laying::atoms::with_row` meets its contract: what is still to be put gives the whole row.
 use mathlib.Core.Path.{◌≡◌, ◌∙◌}
-use Prim.Native.Nat.{◌+◌, ◌-◌}
+use Prim.Native.Nat.{◌+◌}
 use native.Mathlib.Omega.{arith}
-use borrow.Author.Rules.{rules}
 use lib.ListN.{get_or}
 use lib.IntN.{pos}
 use mir.Syntax.{w64, w32}
 use mir.Val.{to_z, of_z}
 use mir.ValLaws.{to_z-of_z}
 use Rattle.theory.specs.Numbers.Bits.{read}
-use Rattle.laying.proofs.AtomNumbers.{RowOnward, row_begun, row_onward, row_ended, coefficient_small}
+use Rattle.laying.proofs.AtomNumbers.{row_begun, row_onward, row_ended, coefficient_small}
 use Rattle.laying.proofs.atoms.with_row.Goals as goal
 
 pub loop-i-init : goal.loop-i-init

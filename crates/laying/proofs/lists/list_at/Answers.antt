@@ -1,5 +1,4 @@
 -- `laying::lists::list_at` meets its contract.
-use borrow.Author.Rules.{rules}
 use Rattle.laying.proofs.ListParts.{list_starts}
 use Rattle.laying.proofs.lists.list_at.Goals as goal
 

@@ -1,5 +1,4 @@
 -- `laying::lists::part_end` meets its contract.
-use borrow.Author.Rules.{rules}
 use Rattle.laying.proofs.ListParts.{part_ends}
 use Rattle.laying.proofs.lists.part_end.Goals as goal
 

@@ -1,5 +1,4 @@
 -- `laying::nodes::deepen` meets its contract.
-use borrow.Author.Rules.{rules}
 use native.Mathlib.Omega.{arith}
 use Rattle.laying.proofs.OneNode.{stopped_there, one_deeper}
 use Rattle.laying.proofs.nodes.deepen.Goals as goal

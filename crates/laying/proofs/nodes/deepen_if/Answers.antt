@@ -1,5 +1,4 @@
 -- `laying::nodes::deepen_if` meets its contract.
-use borrow.Author.Rules.{rules}
 use mathlib.Core.Path.{refl, sym, ◌∙◌}
 use mathlib.Core.Bool.{true≢false}
 use Rattle.laying.proofs.nodes.deepen_if.Goals as goal

@@ -1,8 +1,7 @@
 -- `laying::nodes::lay_connective` meets its contract.
-use borrow.Author.Rules.{rules}
+use mathlib.Core.Path.{sym, ◌∙◌}
 use mathlib.Core.Bool.{false}
 use native.Mathlib.Omega.{arith}
-use Rattle.theory.specs.Numbers.Tests.{failed, passed}
 use Rattle.laying.proofs.OneNode.{room_for_lem, connective_refused, connective_laid}
 use Rattle.laying.proofs.nodes.lay_connective.Goals as goal
 
