@@ -131,6 +131,8 @@ def table():
 TOKEN = re.compile(ID)
 # Fields that are spelled as a lemma is: a field's name is its record's own.
 FIELDS = {"start-row", "some-letters", "spelt-from", "goes_on", "no-atom", "held_in", "refused-by"}
+# Where such a name is declared in a section and is a lemma all the same.
+SECTIONS = {"goes_on": "t.stopped"}
 # The aliases of modules: behind them stands a lemma, and behind any other dot a field, a step of the code or a folder.
 ALIASES = ("bodies",)
 
@@ -150,7 +152,8 @@ def turned(text, new):
             given = re.match(r" = ", behind) and (not before.strip() or re.search(r"[{;]\s*$", before))
             if given and (before.startswith(" ") or before.strip()):
                 return plain(to)
-            if re.match(r"\s+pub $", before) and re.match(r" :| \(", behind):
+            section = name in SECTIONS and behind.startswith(" : " + SECTIONS[name])
+            if re.match(r"\s+pub $", before) and re.match(r" :| \(", behind) and not section:
                 return plain(to)
         return to
 

@@ -48,7 +48,7 @@ module _ {M : Machine (List ℤ)} {plan : Plan} {count₀ : ℕ} {keys₀ : List
       there = tried.went.there;
     }
 
-    pub goes_on : t.stopped ≡ false → Exploring M plan count₀ keys₀ path₀ keys' path' links' t
+    pub goes_on_lem : t.stopped ≡ false → Exploring M plan count₀ keys₀ path₀ keys' path' links' t
     goes_on_lem h = record { going = h; went = goes; linked = tried.linked h }
 
     pub stops : t.stopped ≡ true → ExploringEnded M plan count₀ keys₀ path₀ keys' path' t
