@@ -1,0 +1,22 @@
+-- `build::fill_few` meets its contract: its index has 256 buckets, and no row. Assumes nothing.
+use Prim.Native.Nat.{ℕ}
+use mathlib.Core.Path.{refl, sym}
+use native.Mathlib.Omega.{arith}
+use lib.ListN.{length-replicate}
+use Rattle.explore.specs.Stages.{none_linked}
+use Rattle.build.specs.Filling.{from_start}
+use Rattle.build.proofs.fill_few.Goals as goal
+
+pub fill_from-requires : goal.fill_from-requires
+fill_from-requires c =
+    rw c.going.ensures
+    (record {
+      filling = c.requires.filling;
+      stands = from_start c.requires.filling;
+      linked = none_linked c.args.plan c.args.keys.now 512 c.requires.filling.task.narrow (omega arith) (omega arith) (omega (arith, c.requires.rows_bound));
+      stopped_value = refl;
+    })
+
+pub returns : goal.returns
+returns c = rw c.going.ensures at c.fill_from.ensures
+
