@@ -1,5 +1,4 @@
 -- `build::build` meets its contract, by whether the bytes are accepted. Assumes nothing.
-use borrow.Author.Rules.{rules}
 use Rattle.build.specs.Asked.{refused_built, accepted_limits, accepted_built}
 use Rattle.build.proofs.build.Goals as goal
 

@@ -1,7 +1,6 @@
 -- `build::build_question` meets its contract: where a row is lent the rows are built, and else nothing changes. Assumes nothing.
 use mathlib.Core.Path.{◌≡◌, sym, ◌∙◌}
 use native.Mathlib.Omega.{arith}
-use borrow.Author.Rules.{rules}
 use Rattle.scope.specs.Building.{build_room}
 use Rattle.step.specs.Atoms.{few_kinds}
 use Rattle.build.specs.Asked.{some_atoms, room_is, nothing_built}

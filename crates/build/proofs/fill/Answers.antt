@@ -2,7 +2,6 @@
 use mathlib.Core.List.{[], ◌∷◌}
 use Prim.Native.Nat.{ℕ, ◌≤◌}
 use native.Mathlib.Omega.{arith}
-use borrow.Author.Rules.{rules}
 use Rattle.plan.specs.Moves.{with_rows}
 use Rattle.build.specs.Filling.{Filling, FilledFrom, any_path, few_filling, few_built, many_filling, many_stands, many_built}
 use Rattle.build.proofs.fill.Goals as goal
@@ -23,8 +22,10 @@ fill_few-s-requires c =
 module _ (c : goal.After-fill_few-s) where
   abbrev few : ℕ
   few = c.least-few.result
+
   fewer : few ≤ c.args.plan.rows
   fewer = omega (arith, c.least-few.ensures)
+
   filled : FilledFrom (with_rows c.args.plan few) c.args.sums.now 1 c.args.keys.now (0 ∷ []) c.args.table.now c.fill_few-s.new.keys c.fill_few-s.new.path c.fill_few-s.new.table c.fill_few-s.result
   filled = rw c.with_rows.ensures at c.fill_few-s.ensures
 

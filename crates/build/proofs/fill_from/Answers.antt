@@ -1,6 +1,5 @@
 -- `build::fill_from` meets its contract: where every row is expanded, the index that numbering leaves has them all. Assumes nothing.
 use mathlib.Core.Path.{refl}
-use borrow.Author.Rules.{rules}
 use Rattle.build.specs.Filling.{rows_tabled, rows_fit}
 use Rattle.build.proofs.fill_from.Goals as goal
 

@@ -1,8 +1,6 @@
 -- `build::fill_many` meets its contract: its index has 65,536 buckets, and no row. Assumes nothing.
-use Prim.Native.Nat.{ℕ}
-use mathlib.Core.Path.{refl, sym}
+use mathlib.Core.Path.{refl}
 use native.Mathlib.Omega.{arith}
-use lib.ListN.{length-replicate}
 use Rattle.explore.specs.Stages.{none_linked}
 use Rattle.build.proofs.fill_many.Goals as goal
 
@@ -20,4 +18,3 @@ fill_from-requires c =
 
 pub returns : goal.returns
 returns c = rw c.going.ensures at c.fill_from.ensures
-
