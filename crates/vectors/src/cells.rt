@@ -1,4 +1,6 @@
 // The cells that a line tells: a list, or, for a long one, #COUNT:HASH with the hash of the list's text.
+ghost use Rattle.std.specs.Prelude.{◌<◌};
+
 use crate::numbers::{BELOW, NONE, item, items, number};
 use compared::buffers::{CELL_MARK, KEY_MARK, cells_filled, numbers_filled};
 use compared::text::{rest, word};

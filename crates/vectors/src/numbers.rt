@@ -83,7 +83,7 @@ pub fn marks(text: &[u8], mark: u8) -> usize {
 
 // How many numbers a list has; none where it is a dash alone, or not there.
 pub fn items(list: &[u8]) -> usize {
-    if list.is_empty() || list == b"-" {
+    if list.is_empty() || list == b"-".as_slice() {
         return 0;
     }
     plus_if(true, marks(list, b','))

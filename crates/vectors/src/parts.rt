@@ -17,7 +17,7 @@ pub fn part_number(line: &[u8], k: usize) -> u64 {
 // The word's digits in hexadecimal; none where it is a dash.
 pub fn hex_part<'a>(line: &'a [u8], k: usize) -> &'a [u8] {
     let text = part(line, k);
-    if text == b"-" {
+    if text == b"-".as_slice() {
         stretch(text, 0, 0)
     } else {
         text
