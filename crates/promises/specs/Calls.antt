@@ -1,7 +1,7 @@
 -- An outcome of each public call: its answer and what each lent buffer holds afterwards, as the call's own contract has it. `Post` is read off the
 -- `ensures` of the code, so that nothing is said here a second time.
 use Rattle.std.specs.Prelude.{List, [], ℕ, ℤ}
-use Rattle.std.specs.Borrow.{Bor}
+use Rattle.std.specs.Borrow.{Bor, MutBor}
 use Rattle.scope.specs.declared.Question.{Question}
 use Rattle.scope.specs.declared.Limits.{Limits}
 use Rattle.scope.specs.declared.Held.{Held}
@@ -31,6 +31,10 @@ use Rattle.build.proofs.build.Reads as build
 -- a reference to lent cells; Tied shows that no outcome depends on where they lie in memory
 abbrev pub lent : {X : Type 0} → X → Bor X
 lent x = record { ref_ptr = (0, 0); now = x }
+
+-- the same, of cells that the call may write
+abbrev pub lent_mut : {X : Type 0} → X → MutBor X
+lent_mut x = record { ref_ptr = (0, 0); ghost_name = 0; now = x }
 
 -- ---- a question's constructor and limits
 
@@ -70,12 +74,12 @@ BodyOutcome bytes start len part = body.Post ([], tt) (bytes, (start, (len, tt))
 -- ---- calls that are lent buffers: an outcome is the answer and each buffer afterwards
 
 abbrev pub WriteOutcome : Question → List ℕ → Wrote → Type 0
-WriteOutcome q buffer o = write.Post ([], tt) (q, (lent buffer, tt)) o.answer (q, (lent o.buffer, tt))
+WriteOutcome q buffer o = write.Post ([], tt) (q, (lent_mut buffer, tt)) o.answer (q, (lent_mut o.buffer, tt))
 
 abbrev pub DecideOutcome : List ℕ → List ℤ → List ℕ → List ℕ → Decided → Type 0
 DecideOutcome bytes keys path word o =
-    decide.Post ([], ([], ([], ([], tt)))) (lent bytes, (lent keys, (lent path, (lent word, tt)))) o.answer (lent bytes, (lent o.keys, (lent o.path, (lent o.word, tt))))
+    decide.Post ([], ([], ([], ([], tt)))) (lent bytes, (lent_mut keys, (lent_mut path, (lent_mut word, tt)))) o.answer (lent bytes, (lent_mut o.keys, (lent_mut o.path, (lent_mut o.word, tt))))
 
 abbrev pub BuildOutcome : List ℕ → List ℤ → List ℕ → Built → Type 0
 BuildOutcome bytes keys table o =
-    build.Post ([], ([], ([], tt))) (lent bytes, (lent keys, (lent table, tt))) o.answer (lent bytes, (lent o.keys, (lent o.table, tt)))
+    build.Post ([], ([], ([], tt))) (lent bytes, (lent_mut keys, (lent_mut table, tt))) o.answer (lent bytes, (lent_mut o.keys, (lent_mut o.table, tt)))

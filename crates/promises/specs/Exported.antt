@@ -5,7 +5,7 @@ use Rattle.std.proofs.Common.{sym, ap, ◌∙◌, arith}
 use mathlib.Core.Logic.Iff
 use Rattle.std.proofs.lemmas.List.Edits.{sets}
 use base.Fml.{Lft}
-use Rattle.std.specs.Borrow.{Bor}
+use Rattle.std.specs.Borrow.{Bor, MutBor}
 use Rattle.scope.specs.declared.DecideAnswer.{DecideAnswer}
 use Rattle.scope.specs.declared.BuildAnswer.{BuildAnswer}
 use Rattle.scope.specs.Tree.{IsQuestion}
@@ -25,13 +25,20 @@ use Rattle.pelohuaki_c.proofs.pelohuaki_decide.Reads as decide
 use Rattle.pelohuaki_c.proofs.pelohuaki_build.Reads as build
 use Rattle.pelohuaki_c.proofs.pelohuaki_run.Reads as run
 use Rattle.pelohuaki_c.proofs.pelohuaki_spell.Reads as spell
-use Rattle.promises.specs.Calls.{lent}
+use Rattle.promises.specs.Calls.{lent, lent_mut}
 
 abbrev Cells : Type 0
 Cells = Bor (List ℕ)
 
 abbrev SignedCells : Type 0
 SignedCells = Bor (List ℤ)
+
+-- and those that the call may write
+abbrev MutCells : Type 0
+MutCells = MutBor (List ℕ)
+
+abbrev MutSignedCells : Type 0
+MutSignedCells = MutBor (List ℤ)
 
 -- ---- outcomes: the number that is returned, and each lent buffer afterwards
 
@@ -67,119 +74,119 @@ pub record BuiltCells : Type 0 where
   pub told : List ℕ
 
 abbrev pub RecordExported : List ℕ → ℕ → List ℕ → ToldOutcome → Type 0
-RecordExported bytes at told o = record-at.Post ([], ([], tt)) (lent bytes, (at, (lent told, tt))) o.number (lent bytes, (at, (lent o.told, tt)))
+RecordExported bytes at told o = record-at.Post ([], ([], tt)) (lent bytes, (at, (lent_mut told, tt))) o.number (lent bytes, (at, (lent_mut o.told, tt)))
 
 abbrev pub ReadExported : List ℕ → List ℕ → List ℤ → List ℤ → List ℕ → ReadCells → Type 0
 ReadExported bytes codes coefficients constants told o =
-    read.Post ([], ([], ([], ([], ([], tt))))) (lent bytes, (lent codes, (lent coefficients, (lent constants, (lent told, tt)))))
-    o.number (lent bytes, (lent o.codes, (lent o.coefficients, (lent o.constants, (lent o.told, tt)))))
+    read.Post ([], ([], ([], ([], ([], tt))))) (lent bytes, (lent_mut codes, (lent_mut coefficients, (lent_mut constants, (lent_mut told, tt)))))
+    o.number (lent bytes, (lent_mut o.codes, (lent_mut o.coefficients, (lent_mut o.constants, (lent_mut o.told, tt)))))
 
 abbrev pub WriteExported : ℕ → List ℕ → List ℤ → List ℤ → List ℕ → List ℕ → WroteCells → Type 0
 WriteExported n codes coefficients constants bytes told o =
-    write.Post ([], ([], ([], ([], ([], tt))))) (n, (lent codes, (lent coefficients, (lent constants, (lent bytes, (lent told, tt))))))
-    o.number (n, (lent codes, (lent coefficients, (lent constants, (lent o.bytes, (lent o.told, tt))))))
+    write.Post ([], ([], ([], ([], ([], tt))))) (n, (lent codes, (lent coefficients, (lent constants, (lent_mut bytes, (lent_mut told, tt))))))
+    o.number (n, (lent codes, (lent coefficients, (lent constants, (lent_mut o.bytes, (lent_mut o.told, tt))))))
 
 abbrev pub ImportExported : List ℕ → List ℕ → List ℤ → List ℤ → List ℕ → ReadCells → Type 0
 ImportExported text codes coefficients constants told o =
-    importing.Post ([], ([], ([], ([], ([], tt))))) (lent text, (lent codes, (lent coefficients, (lent constants, (lent told, tt)))))
-    o.number (lent text, (lent o.codes, (lent o.coefficients, (lent o.constants, (lent o.told, tt)))))
+    importing.Post ([], ([], ([], ([], ([], tt))))) (lent text, (lent_mut codes, (lent_mut coefficients, (lent_mut constants, (lent_mut told, tt)))))
+    o.number (lent text, (lent_mut o.codes, (lent_mut o.coefficients, (lent_mut o.constants, (lent_mut o.told, tt)))))
 
 abbrev pub JudgeExported : List ℕ → List ℕ → List ℕ → ToldOutcome → Type 0
-JudgeExported bytes values told o = judge.Post ([], ([], ([], tt))) (lent bytes, (lent values, (lent told, tt))) o.number (lent bytes, (lent values, (lent o.told, tt)))
+JudgeExported bytes values told o = judge.Post ([], ([], ([], tt))) (lent bytes, (lent values, (lent_mut told, tt))) o.number (lent bytes, (lent values, (lent_mut o.told, tt)))
 
 abbrev pub DecideExported : List ℕ → List ℤ → List ℕ → List ℕ → List ℕ → DecidedCells → Type 0
 DecideExported bytes keys path word told o =
-    decide.Post ([], ([], ([], ([], ([], tt))))) (lent bytes, (lent keys, (lent path, (lent word, (lent told, tt)))))
-    o.number (lent bytes, (lent o.keys, (lent o.path, (lent o.word, (lent o.told, tt)))))
+    decide.Post ([], ([], ([], ([], ([], tt))))) (lent bytes, (lent_mut keys, (lent_mut path, (lent_mut word, (lent_mut told, tt)))))
+    o.number (lent bytes, (lent_mut o.keys, (lent_mut o.path, (lent_mut o.word, (lent_mut o.told, tt)))))
 
 abbrev pub BuildExported : List ℕ → List ℤ → List ℕ → List ℕ → BuiltCells → Type 0
 BuildExported bytes keys table told o =
-    build.Post ([], ([], ([], ([], tt)))) (lent bytes, (lent keys, (lent table, (lent told, tt)))) o.number (lent bytes, (lent o.keys, (lent o.table, (lent o.told, tt))))
+    build.Post ([], ([], ([], ([], tt)))) (lent bytes, (lent_mut keys, (lent_mut table, (lent_mut told, tt)))) o.number (lent bytes, (lent_mut o.keys, (lent_mut o.table, (lent_mut o.told, tt))))
 
 abbrev pub RunExported : ℕ → List ℕ → List ℕ → List ℕ → ToldOutcome → Type 0
-RunExported n cells word told o = run.Post ([], ([], ([], tt))) (n, (lent cells, (lent word, (lent told, tt)))) o.number (n, (lent cells, (lent word, (lent o.told, tt))))
+RunExported n cells word told o = run.Post ([], ([], ([], tt))) (n, (lent cells, (lent word, (lent_mut told, tt)))) o.number (n, (lent cells, (lent word, (lent_mut o.told, tt))))
 
 abbrev pub SpellExported : ℕ → ℕ → List ℕ → List ℕ → ToldOutcome → Type 0
-SpellExported n variable word told o = spell.Post ([], ([], tt)) (n, (variable, (lent word, (lent told, tt)))) o.number (n, (variable, (lent word, (lent o.told, tt))))
+SpellExported n variable word told o = spell.Post ([], ([], tt)) (n, (variable, (lent word, (lent_mut told, tt)))) o.number (n, (variable, (lent word, (lent_mut o.told, tt))))
 
 -- ---- whatever is lent, wherever it lies: nothing is asked of it, and what the contract says is such an outcome
 
-module _ (κ μ : Lft) (bytes told : Cells) (at : ℕ) where
+module _ (κ μ : Lft) (bytes : Cells) (told : MutCells) (at : ℕ) where
   pub exported_record_any : record-at.Pre (κ, (μ, tt)) (bytes, (at, (told, tt)))
   exported_record_any = tt
 
-  pub exported_record_tied : (number : ℕ) (told₁ : Cells) → record-at.Post (κ, (μ, tt)) (bytes, (at, (told, tt))) number (bytes, (at, (told₁, tt)))
+  pub exported_record_tied : (number : ℕ) (told₁ : MutCells) → record-at.Post (κ, (μ, tt)) (bytes, (at, (told, tt))) number (bytes, (at, (told₁, tt)))
       → RecordExported bytes.now at told.now (record { number = number; told = told₁.now })
   exported_record_tied number told₁ p = p
 
-module _ (κ μ ν ξ ο : Lft) (bytes codes : Cells) (coefficients constants : SignedCells) (told : Cells) where
+module _ (κ μ ν ξ ο : Lft) (bytes : Cells) (codes : MutCells) (coefficients constants : MutSignedCells) (told : MutCells) where
   pub exported_read_any : read.Pre (κ, (μ, (ν, (ξ, (ο, tt))))) (bytes, (codes, (coefficients, (constants, (told, tt)))))
   exported_read_any = tt
 
-  pub exported_read_tied : (number : ℕ) (codes₁ : Cells) (coefficients₁ constants₁ : SignedCells) (told₁ : Cells)
+  pub exported_read_tied : (number : ℕ) (codes₁ : MutCells) (coefficients₁ constants₁ : MutSignedCells) (told₁ : MutCells)
       → read.Post (κ, (μ, (ν, (ξ, (ο, tt))))) (bytes, (codes, (coefficients, (constants, (told, tt))))) number (bytes, (codes₁, (coefficients₁, (constants₁, (told₁, tt)))))
       → ReadExported bytes.now codes.now coefficients.now constants.now told.now
       (record { number = number; codes = codes₁.now; coefficients = coefficients₁.now; constants = constants₁.now; told = told₁.now })
   exported_read_tied number codes₁ coefficients₁ constants₁ told₁ p = p
 
-module _ (κ μ ν ξ ο : Lft) (n : ℕ) (codes : Cells) (coefficients constants : SignedCells) (bytes told : Cells) where
+module _ (κ μ ν ξ ο : Lft) (n : ℕ) (codes : Cells) (coefficients constants : SignedCells) (bytes told : MutCells) where
   pub exported_write_any : write.Pre (κ, (μ, (ν, (ξ, (ο, tt))))) (n, (codes, (coefficients, (constants, (bytes, (told, tt))))))
   exported_write_any = tt
 
-  pub exported_write_tied : (number : ℕ) (bytes₁ told₁ : Cells)
+  pub exported_write_tied : (number : ℕ) (bytes₁ told₁ : MutCells)
       → write.Post (κ, (μ, (ν, (ξ, (ο, tt))))) (n, (codes, (coefficients, (constants, (bytes, (told, tt)))))) number (n, (codes, (coefficients, (constants, (bytes₁, (told₁, tt))))))
       → WriteExported n codes.now coefficients.now constants.now bytes.now told.now (record { number = number; bytes = bytes₁.now; told = told₁.now })
   exported_write_tied number bytes₁ told₁ p = p
 
-module _ (κ μ ν ξ ο : Lft) (text codes : Cells) (coefficients constants : SignedCells) (told : Cells) where
+module _ (κ μ ν ξ ο : Lft) (text : Cells) (codes : MutCells) (coefficients constants : MutSignedCells) (told : MutCells) where
   pub exported_import_any : importing.Pre (κ, (μ, (ν, (ξ, (ο, tt))))) (text, (codes, (coefficients, (constants, (told, tt)))))
   exported_import_any = tt
 
-  pub exported_import_tied : (number : ℕ) (codes₁ : Cells) (coefficients₁ constants₁ : SignedCells) (told₁ : Cells)
+  pub exported_import_tied : (number : ℕ) (codes₁ : MutCells) (coefficients₁ constants₁ : MutSignedCells) (told₁ : MutCells)
       → importing.Post (κ, (μ, (ν, (ξ, (ο, tt))))) (text, (codes, (coefficients, (constants, (told, tt))))) number (text, (codes₁, (coefficients₁, (constants₁, (told₁, tt)))))
       → ImportExported text.now codes.now coefficients.now constants.now told.now
       (record { number = number; codes = codes₁.now; coefficients = coefficients₁.now; constants = constants₁.now; told = told₁.now })
   exported_import_tied number codes₁ coefficients₁ constants₁ told₁ p = p
 
-module _ (κ μ ν : Lft) (bytes values told : Cells) where
+module _ (κ μ ν : Lft) (bytes values : Cells) (told : MutCells) where
   pub exported_judge_any : judge.Pre (κ, (μ, (ν, tt))) (bytes, (values, (told, tt)))
   exported_judge_any = tt
 
-  pub exported_judge_tied : (number : ℕ) (told₁ : Cells) → judge.Post (κ, (μ, (ν, tt))) (bytes, (values, (told, tt))) number (bytes, (values, (told₁, tt)))
+  pub exported_judge_tied : (number : ℕ) (told₁ : MutCells) → judge.Post (κ, (μ, (ν, tt))) (bytes, (values, (told, tt))) number (bytes, (values, (told₁, tt)))
       → JudgeExported bytes.now values.now told.now (record { number = number; told = told₁.now })
   exported_judge_tied number told₁ p = p
 
-module _ (κ μ ν ξ ο : Lft) (bytes : Cells) (keys : SignedCells) (path word told : Cells) where
+module _ (κ μ ν ξ ο : Lft) (bytes : Cells) (keys : MutSignedCells) (path word told : MutCells) where
   pub exported_decide_any : decide.Pre (κ, (μ, (ν, (ξ, (ο, tt))))) (bytes, (keys, (path, (word, (told, tt)))))
   exported_decide_any = tt
 
-  pub exported_decide_tied : (number : ℕ) (keys₁ : SignedCells) (path₁ word₁ told₁ : Cells)
+  pub exported_decide_tied : (number : ℕ) (keys₁ : MutSignedCells) (path₁ word₁ told₁ : MutCells)
       → decide.Post (κ, (μ, (ν, (ξ, (ο, tt))))) (bytes, (keys, (path, (word, (told, tt))))) number (bytes, (keys₁, (path₁, (word₁, (told₁, tt)))))
       → DecideExported bytes.now keys.now path.now word.now told.now (record { number = number; keys = keys₁.now; path = path₁.now; word = word₁.now; told = told₁.now })
   exported_decide_tied number keys₁ path₁ word₁ told₁ p = p
 
-module _ (κ μ ν ξ : Lft) (bytes : Cells) (keys : SignedCells) (table told : Cells) where
+module _ (κ μ ν ξ : Lft) (bytes : Cells) (keys : MutSignedCells) (table told : MutCells) where
   pub exported_build_any : build.Pre (κ, (μ, (ν, (ξ, tt)))) (bytes, (keys, (table, (told, tt))))
   exported_build_any = tt
 
-  pub exported_build_tied : (number : ℕ) (keys₁ : SignedCells) (table₁ told₁ : Cells)
+  pub exported_build_tied : (number : ℕ) (keys₁ : MutSignedCells) (table₁ told₁ : MutCells)
       → build.Post (κ, (μ, (ν, (ξ, tt)))) (bytes, (keys, (table, (told, tt)))) number (bytes, (keys₁, (table₁, (told₁, tt))))
       → BuildExported bytes.now keys.now table.now told.now (record { number = number; keys = keys₁.now; table = table₁.now; told = told₁.now })
   exported_build_tied number keys₁ table₁ told₁ p = p
 
-module _ (κ μ ν : Lft) (n : ℕ) (cells word told : Cells) where
+module _ (κ μ ν : Lft) (n : ℕ) (cells word : Cells) (told : MutCells) where
   pub exported_run_any : run.Pre (κ, (μ, (ν, tt))) (n, (cells, (word, (told, tt))))
   exported_run_any = tt
 
-  pub exported_run_tied : (number : ℕ) (told₁ : Cells) → run.Post (κ, (μ, (ν, tt))) (n, (cells, (word, (told, tt)))) number (n, (cells, (word, (told₁, tt))))
+  pub exported_run_tied : (number : ℕ) (told₁ : MutCells) → run.Post (κ, (μ, (ν, tt))) (n, (cells, (word, (told, tt)))) number (n, (cells, (word, (told₁, tt))))
       → RunExported n cells.now word.now told.now (record { number = number; told = told₁.now })
   exported_run_tied number told₁ p = p
 
-module _ (κ μ : Lft) (n variable : ℕ) (word told : Cells) where
+module _ (κ μ : Lft) (n variable : ℕ) (word : Cells) (told : MutCells) where
   pub exported_spell_any : spell.Pre (κ, (μ, tt)) (n, (variable, (word, (told, tt))))
   exported_spell_any = tt
 
-  pub exported_spell_tied : (number : ℕ) (told₁ : Cells) → spell.Post (κ, (μ, tt)) (n, (variable, (word, (told, tt)))) number (n, (variable, (word, (told₁, tt))))
+  pub exported_spell_tied : (number : ℕ) (told₁ : MutCells) → spell.Post (κ, (μ, tt)) (n, (variable, (word, (told, tt)))) number (n, (variable, (word, (told₁, tt))))
       → SpellExported n variable word.now told.now (record { number = number; told = told₁.now })
   exported_spell_tied number told₁ p = p
 

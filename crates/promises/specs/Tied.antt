@@ -1,7 +1,7 @@
 -- Whatever is lent, wherever it lies in memory: a call asks nothing of it (`Pre`), and what its contract says (`Post`) is an outcome of Calls.
 use Rattle.std.specs.Prelude.{List, ℕ, ℤ}
 use base.Fml.{Lft}
-use Rattle.std.specs.Borrow.{Bor}
+use Rattle.std.specs.Borrow.{Bor, MutBor}
 use Rattle.scope.specs.declared.Question.{Question}
 use Rattle.scope.specs.declared.Held.{Held}
 use Rattle.scope.specs.declared.RecordAnswer.{RecordAnswer}
@@ -25,12 +25,16 @@ use Rattle.decide.proofs.decide.Reads as decide
 use Rattle.build.proofs.build.Reads as build
 use Rattle.promises.specs.Calls.{RecordOutcome, BodyOutcome, ReadOutcome, PartOutcome, ImportOutcome, JudgeOutcome, RunOutcome, SpellOutcome, WriteOutcome, DecideOutcome, BuildOutcome}
 
--- cells that hold naturals, and cells that hold signed numbers
+-- cells that are read
 abbrev Cells : Type 0
 Cells = Bor (List ℕ)
 
-abbrev SignedCells : Type 0
-SignedCells = Bor (List ℤ)
+-- and those that the call may write
+abbrev MutCells : Type 0
+MutCells = MutBor (List ℕ)
+
+abbrev MutSignedCells : Type 0
+MutSignedCells = MutBor (List ℤ)
 
 module _ (κ : Lft) (bytes : Cells) where
   pub read_any : read.Pre (κ, tt) (bytes, tt)
@@ -64,11 +68,11 @@ module _ (κ : Lft) (text : Cells) where
   pub import_tied : (r : Import) → importing.Post (κ, tt) (text, tt) r (text, tt) → ImportOutcome text.now r
   import_tied r p = p
 
-module _ (κ : Lft) (q : Question) (bytes : Cells) where
+module _ (κ : Lft) (q : Question) (bytes : MutCells) where
   pub write_any : write.Pre (κ, tt) (q, (bytes, tt))
   write_any = tt
 
-  pub write_tied : (r : WriteAnswer) (bytes₁ : Cells) → write.Post (κ, tt) (q, (bytes, tt)) r (q, (bytes₁, tt)) → WriteOutcome q bytes.now (record { answer = r; buffer = bytes₁.now })
+  pub write_tied : (r : WriteAnswer) (bytes₁ : MutCells) → write.Post (κ, tt) (q, (bytes, tt)) r (q, (bytes₁, tt)) → WriteOutcome q bytes.now (record { answer = r; buffer = bytes₁.now })
   write_tied r bytes₁ p = p
 
 module _ (κ μ : Lft) (bytes values : Cells) where
@@ -92,19 +96,19 @@ module _ (κ : Lft) (n variable : ℕ) (word : Cells) where
   pub spell_tied : (r : SpellAnswer) → spell.Post (κ, tt) (n, (variable, (word, tt))) r (n, (variable, (word, tt))) → SpellOutcome n variable word.now r
   spell_tied r p = p
 
-module _ (κ μ ν ξ : Lft) (bytes : Cells) (keys : SignedCells) (path word : Cells) where
+module _ (κ μ ν ξ : Lft) (bytes : Cells) (keys : MutSignedCells) (path word : MutCells) where
   pub decide_any : decide.Pre (κ, (μ, (ν, (ξ, tt)))) (bytes, (keys, (path, (word, tt))))
   decide_any = tt
 
-  pub decide_tied : (r : DecideAnswer) (keys₁ : SignedCells) (path₁ word₁ : Cells)
+  pub decide_tied : (r : DecideAnswer) (keys₁ : MutSignedCells) (path₁ word₁ : MutCells)
       → decide.Post (κ, (μ, (ν, (ξ, tt)))) (bytes, (keys, (path, (word, tt)))) r (bytes, (keys₁, (path₁, (word₁, tt))))
       → DecideOutcome bytes.now keys.now path.now word.now (record { answer = r; keys = keys₁.now; path = path₁.now; word = word₁.now })
   decide_tied r keys₁ path₁ word₁ p = p
 
-module _ (κ μ ν : Lft) (bytes : Cells) (keys : SignedCells) (table : Cells) where
+module _ (κ μ ν : Lft) (bytes : Cells) (keys : MutSignedCells) (table : MutCells) where
   pub build_any : build.Pre (κ, (μ, (ν, tt))) (bytes, (keys, (table, tt)))
   build_any = tt
 
-  pub build_tied : (r : BuildAnswer) (keys₁ : SignedCells) (table₁ : Cells) → build.Post (κ, (μ, (ν, tt))) (bytes, (keys, (table, tt))) r (bytes, (keys₁, (table₁, tt)))
+  pub build_tied : (r : BuildAnswer) (keys₁ : MutSignedCells) (table₁ : MutCells) → build.Post (κ, (μ, (ν, tt))) (bytes, (keys, (table, tt))) r (bytes, (keys₁, (table₁, tt)))
       → BuildOutcome bytes.now keys.now table.now (record { answer = r; keys = keys₁.now; table = table₁.now })
   build_tied r keys₁ table₁ p = p
