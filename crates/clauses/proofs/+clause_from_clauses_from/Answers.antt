@@ -10,19 +10,28 @@ use Rattle.clauses.proofs.+clause_from_clauses_from.Goals as goal
 pub clause_from-returns-then-form-lt-OPEN : goal.clause_from-returns-then-form-lt-OPEN
 clause_from-returns-then-form-lt-OPEN t c =
     let inside = c.requires.1 in
-    rw c.end.ensures (record { inside = (goes_further inside (c.form_at-form.ensures.stands, c.form_at-form.ensures.read), c.form_at-form.ensures.stands.inside); read = part_ended inside (c.form_at-form.ensures.stands, c.form_at-form.ensures.read) c.if-form-lt-OPEN.true })
+    rw c.end.ensures (record {
+      inside = (goes_further inside (c.form_at-form.ensures.stands, c.form_at-form.ensures.read), c.form_at-form.ensures.stands.inside);
+      read = part_ended inside (c.form_at-form.ensures.stands, c.form_at-form.ensures.read) c.if-form-lt-OPEN.true;
+    })
 
 pub clause_from-returns-then-form-ne-OPEN : goal.clause_from-returns-then-form-ne-OPEN
 clause_from-returns-then-form-ne-OPEN t c =
     let inside = c.requires.1 in
-    rw c.outside.ensures (record { inside = (goes_further inside (c.form_at-form.ensures.stands, c.form_at-form.ensures.read), c.form_at-form.ensures.stands.inside); read = part_word inside (c.form_at-form.ensures.stands, c.form_at-form.ensures.read) c.if-form-lt-OPEN.false c.if-form-ne-OPEN.true })
+    rw c.outside.ensures (record {
+      inside = (goes_further inside (c.form_at-form.ensures.stands, c.form_at-form.ensures.read), c.form_at-form.ensures.stands.inside);
+      read = part_word inside (c.form_at-form.ensures.stands, c.form_at-form.ensures.read) c.if-form-lt-OPEN.false c.if-form-ne-OPEN.true;
+    })
 
 pub clause_from-returns-then-head-lt-EQUAL : goal.clause_from-returns-then-head-lt-EQUAL
 clause_from-returns-then-head-lt-EQUAL t c =
     let inside = c.requires.1 in
     let further = goes_further inside (c.form_at-form.ensures.stands, c.form_at-form.ensures.read) in
     let no_formula = ⊎_elim (λ w. low_code_outside _ w) (λ w. high_code_outside _ w.1) c.then-head-lt-EQUAL.either in
-    rw c.outside-then-head-lt-EQUAL.ensures (record { inside = omega (arith, further); read = part_outside inside (c.form_at-form.ensures.stands, c.form_at-form.ensures.read) c.if-form-ne-OPEN.false _ c.head_at-head.ensures.read no_formula c.list_end.ensures.closed })
+    rw c.outside-then-head-lt-EQUAL.ensures (record {
+      inside = omega (arith, further);
+      read = part_outside inside (c.form_at-form.ensures.stands, c.form_at-form.ensures.read) c.if-form-ne-OPEN.false _ c.head_at-head.ensures.read no_formula c.list_end.ensures.closed;
+    })
 
 pub clause_from-overflow_sub-left : goal.clause_from-overflow_sub-left
 clause_from-overflow_sub-left t c =
@@ -39,7 +48,10 @@ clause_from-returns-then-head-lt-NOT t c =
     let inside = c.requires.1 in
     let further = goes_further inside (c.form_at-form.ensures.stands, c.form_at-form.ensures.read) in
     let most = c.if-head-gt-OR.false in
-    record { inside = omega (arith, further); read = part_list inside (c.form_at-form.ensures.stands, c.form_at-form.ensures.read) c.if-form-ne-OPEN.false _ c.head_at-head.ensures.read most _ c.sides_from.ensures.read }
+    record {
+      inside = omega (arith, further);
+      read = part_list inside (c.form_at-form.ensures.stands, c.form_at-form.ensures.read) c.if-form-ne-OPEN.false _ c.head_at-head.ensures.read most _ c.sides_from.ensures.read;
+    }
 
 pub clause_from-clauses_from-requires : goal.clause_from-clauses_from-requires
 clause_from-clauses_from-requires t c =
@@ -53,7 +65,10 @@ clause_from-returns t c =
     let inside = c.requires.1 in
     let further = goes_further inside (c.form_at-form.ensures.stands, c.form_at-form.ensures.read) in
     let most = c.if-head-gt-OR.false in
-    record { inside = omega (arith, further); read = part_list inside (c.form_at-form.ensures.stands, c.form_at-form.ensures.read) c.if-form-ne-OPEN.false _ c.head_at-head.ensures.read most _ c.clauses_from.ensures.read }
+    record {
+      inside = omega (arith, further);
+      read = part_list inside (c.form_at-form.ensures.stands, c.form_at-form.ensures.read) c.if-form-ne-OPEN.false _ c.head_at-head.ensures.read most _ c.clauses_from.ensures.read;
+    }
 
 pub clauses_from-loop-all-init : goal.clauses_from-loop-all-init
 clauses_from-loop-all-init t c =
@@ -66,7 +81,10 @@ clauses_from-clause_from-part-requires t c =
 pub clauses_from-returns-then-part : goal.clauses_from-returns-then-part
 clauses_from-returns-then-part t c =
     let bounds = c.requires.1.1 in
-    rw (c.of.ensures, c.connected-all.ensures) (record { inside = omega (arith, c.clause_from-part.ensures.inside.0); read = all_gathered _ c.loop-all.invariant.1.1 (c.clause_from-part.ensures.read.no_more c.if-part.true) bounds.0 bounds.1 })
+    rw (c.of.ensures, c.connected-all.ensures) (record {
+      inside = omega (arith, c.clause_from-part.ensures.inside.0);
+      read = all_gathered _ c.loop-all.invariant.1.1 (c.clause_from-part.ensures.read.no_more c.if-part.true) bounds.0 bounds.1;
+    })
 
 pub clauses_from-loop-all-preserved : goal.clauses_from-loop-all-preserved
 clauses_from-loop-all-preserved t c =

@@ -24,16 +24,18 @@ move_at c = move_of (state_named c.loop-i.state) (get_or c.args.text.now c.loop-
 
 pub returns-then-depth-gt-NESTING : goal.returns-then-depth-gt-NESTING
 returns-then-depth-gt-NESTING c =
-    let no = then_broken (move_at (goal.at.returns-then-depth-gt-NESTING c).At-loop-i) c.loop-i.depth c.depth_then-depth.result c.loop-i.invariant.1 (c.depth_then-depth.ensures (move_at (goal.at.returns-then-depth-gt-NESTING c).At-loop-i) c.move_of-step.ensures) c.if-depth-gt-NESTING.true in
+    let k = (goal.at.returns-then-depth-gt-NESTING c).At-loop-i in
+    let no = then_broken (move_at k) c.loop-i.depth c.depth_then-depth.result c.loop-i.invariant.1 (c.depth_then-depth.ensures (move_at k) c.move_of-step.ensures) c.if-depth-gt-NESTING.true in
     sym (ap spot_of (c.loop-i.invariant.2 ∙ broken_here _ _ c.loop-i.depth c.loop-i.i c.loop-i-test.true no))
 
 pub loop-i-preserved : goal.loop-i-preserved
 loop-i-preserved c =
-    let goes = then_goes (move_at (goal.at.loop-i-preserved c).At-loop-i) c.loop-i.depth c.depth_then-depth.result (c.depth_then-depth.ensures (move_at (goal.at.loop-i-preserved c).At-loop-i) c.move_of-step.ensures) c.if-depth-gt-NESTING.false in (
+    let k = (goal.at.loop-i-preserved c).At-loop-i in
+    let goes = then_goes (move_at k) c.loop-i.depth c.depth_then-depth.result (c.depth_then-depth.ensures (move_at k) c.move_of-step.ensures) c.if-depth-gt-NESTING.false in (
       omega arith,
       c.if-depth-gt-NESTING.false,
       c.loop-i.invariant.2 ∙
-          broken_more _ _ c.loop-i.depth c.loop-i.i _ _ c.loop-i-test.true goes.0 (sym (named_after (move_at (goal.at.loop-i-preserved c).At-loop-i) c.move_of-step.result c.move_of-step.ensures)) goes.1,
+          broken_more _ _ c.loop-i.depth c.loop-i.i _ _ c.loop-i-test.true goes.0 (sym (named_after (move_at k) c.move_of-step.result c.move_of-step.ensures)) goes.1,
     )
 
 -- the text ends

@@ -49,7 +49,10 @@ term_from-returns-then-head-gt-TIMES t c =
     let here = (c.form_at-form.ensures.read depth c.requires.1.unbroken).open_list c.if-form-ne-OPEN.false in
     let on = c.form_at-form.ensures.stands.goes_on (λ e. omega (arith, c.if-form-ne-OPEN.false)) in
     let outside = outside_says c.form_at-form.result.place c.list_end.result in
-    rw c.outside.ensures (record { inside = (omega (arith, on, c.form_at-form.ensures.stands.not_before, c.list_end.ensures.stands.0), c.list_end.ensures.stands.1); read = outside_part (names_in c.args.text.now c.args.names.now c.args.count) here (c.head_at-head.ensures.read (suc depth) here.unbroken) c.if-head-gt-TIMES.true (c.list_end.ensures.closed depth here.unbroken) outside })
+    rw c.outside.ensures (record {
+      inside = (omega (arith, on, c.form_at-form.ensures.stands.not_before, c.list_end.ensures.stands.0), c.list_end.ensures.stands.1);
+      read = outside_part (names_in c.args.text.now c.args.names.now c.args.count) here (c.head_at-head.ensures.read (suc depth) here.unbroken) c.if-head-gt-TIMES.true (c.list_end.ensures.closed depth here.unbroken) outside;
+    })
 
 pub term_from-overflow_sub-nesting : goal.term_from-overflow_sub-nesting
 unfolding FormReads ListEnds HeadReads ListReads
@@ -63,8 +66,20 @@ term_from-terms_from-requires t c =
     let depth : ℕ = most_nesting - c.args.nesting in
     let here = (c.form_at-form.ensures.read depth c.requires.1.unbroken).open_list c.if-form-ne-OPEN.false in
     let parts = (c.head_at-head.ensures.read (suc depth) here.unbroken).parts (omega (arith, c.if-head-gt-TIMES.false)) in
-    let deeper : most_nesting - (c.args.nesting - 1) ≡ suc depth = omega (arith, here.nested, c.requires.1.left) in
-    (omega (arith, here.nested, c.decreases), (c.requires.0, (record { here = c.head_at-head.ensures.stands.1; left = omega (arith, c.requires.1.left); unbroken = rw deeper parts.unbroken }, omega (arith, c.if-head-gt-TIMES.false))))
+    let deeper : most_nesting - (c.args.nesting - 1) ≡ suc depth = omega (arith, here.nested, c.requires.1.left) in (
+      omega (arith, here.nested, c.decreases),
+      (
+        c.requires.0,
+        (
+          record {
+            here = c.head_at-head.ensures.stands.1;
+            left = omega (arith, c.requires.1.left);
+            unbroken = rw deeper parts.unbroken;
+          },
+          omega (arith, c.if-head-gt-TIMES.false),
+        ),
+      ),
+    )
 
 pub term_from-returns : goal.term_from-returns
 unfolding FormReads ListEnds HeadReads ListReads
@@ -74,7 +89,10 @@ term_from-returns t c =
     let here = (c.form_at-form.ensures.read depth c.requires.1.unbroken).open_list opening in
     let on = c.form_at-form.ensures.stands.goes_on (λ e. omega (arith, opening)) in
     let names = names_in c.args.text.now c.args.names.now c.args.count in
-    record { inside = (omega (arith, on, c.form_at-form.ensures.stands.not_before, c.head_at-head.ensures.stands.0, c.terms_from.ensures.inside.0), c.terms_from.ensures.inside.1); read = list_part names here (most_nesting - (c.args.nesting - 1)) (c.head_at-head.ensures.read (suc depth) here.unbroken) c.if-head-gt-TIMES.false (omega (arith, here.nested, c.requires.1.left)) c.terms_from.ensures.read }
+    record {
+      inside = (omega (arith, on, c.form_at-form.ensures.stands.not_before, c.head_at-head.ensures.stands.0, c.terms_from.ensures.inside.0), c.terms_from.ensures.inside.1);
+      read = list_part names here (most_nesting - (c.args.nesting - 1)) (c.head_at-head.ensures.read (suc depth) here.unbroken) c.if-head-gt-TIMES.false (omega (arith, here.nested, c.requires.1.left)) c.terms_from.ensures.read;
+    }
 
 pub terms_from-loop-part-init : goal.terms_from-loop-part-init
 terms_from-loop-part-init t c =
@@ -93,7 +111,14 @@ unfolding ListReads
 terms_from-returns-then-part t c =
     let i = c.loop-part.invariant in
     let end = c.term_from-part.ensures.read.no_more c.if-part.true in
-    record { inside = (omega (arith, c.settled.ensures.next.0, c.term_from-part.ensures.inside.0, i.onward.0), omega (arith, c.settled.ensures.next.0, c.term_from-part.ensures.inside.1)); read = λ h e. record { not_ended = c.settled.ensures.next.1; says = rw (sofar_all i end.0) (c.settled.ensures.says h i.sofar e c.requires.1.1 i.gathers); closed = rw c.settled.ensures.next.0 (sofar_end i end.1) } }
+    record {
+      inside = (omega (arith, c.settled.ensures.next.0, c.term_from-part.ensures.inside.0, i.onward.0), omega (arith, c.settled.ensures.next.0, c.term_from-part.ensures.inside.1));
+      read = λ h e. record {
+        not_ended = c.settled.ensures.next.1;
+        says = rw (sofar_all i end.0) (c.settled.ensures.says h i.sofar e c.requires.1.1 i.gathers);
+        closed = rw c.settled.ensures.next.0 (sofar_end i end.1);
+      };
+    }
 
 pub terms_from-gather-more-requires : goal.terms_from-gather-more-requires
 terms_from-gather-more-requires t c =

@@ -10,9 +10,15 @@ pub returns-then-form-eq-SYMBOL : goal.returns-then-form-eq-SYMBOL
 unfolding HeadReads FormReads
 returns-then-form-eq-SYMBOL c =
     let goes = c.form_at-form.ensures.stands.goes_on (λ e. omega arith) in
-    record { stands = (omega arith, c.form_at-form.ensures.stands.inside); read = λ depth u. symbol_head (c.form_at-form.ensures.read depth u) c.if-form-eq-SYMBOL.true refl c.head_code.ensures }
+    record {
+      stands = (omega arith, c.form_at-form.ensures.stands.inside);
+      read = λ depth u. symbol_head (c.form_at-form.ensures.read depth u) c.if-form-eq-SYMBOL.true refl c.head_code.ensures;
+    }
 
 pub returns : goal.returns
 unfolding HeadReads FormReads
 returns c =
-    record { stands = (omega arith, c.requires); read = λ depth u. no_head (c.form_at-form.ensures.read depth u) c.form_at-form.ensures.stands.kind_known c.if-form-eq-SYMBOL.false refl }
+    record {
+      stands = (omega arith, c.requires);
+      read = λ depth u. no_head (c.form_at-form.ensures.read depth u) c.form_at-form.ensures.stands.kind_known c.if-form-eq-SYMBOL.false refl;
+    }

@@ -20,13 +20,19 @@ pub returns-then-command-eq-DECLARE_CONST : goal.returns-then-command-eq-DECLARE
 returns-then-command-eq-DECLARE_CONST c =
     let turn = command_turned _ _ _ c.requires.0 c.requires.1.0 c.requires.1.1 _ c.form_at-form.ensures.read _ c.command_at-command.ensures.read _ c.list_end-next.ensures.closed in
     let on = form_further _ _ _ c.requires.0 c.requires.1.0 c.requires.1.1 _ c.form_at-form.ensures.read c.form_at-form.ensures.stands in
-    rw c.at.ensures (record { further = (omega (arith, on, c.list_end-next.ensures.stands.0), c.list_end-next.ensures.stands.1); laid = declared_laid _ _ _ c.requires.0 c.requires.1.0 c.requires.1.1 _ _ c.list_end-next.ensures.stands.1 turn c.if-command-eq-DECLARE_CONST.true })
+    rw c.at.ensures (record {
+      further = (omega (arith, on, c.list_end-next.ensures.stands.0), c.list_end-next.ensures.stands.1);
+      laid = declared_laid _ _ _ c.requires.0 c.requires.1.0 c.requires.1.1 _ _ c.list_end-next.ensures.stands.1 turn c.if-command-eq-DECLARE_CONST.true;
+    })
 
 pub returns-then-command-ne-ASSERT : goal.returns-then-command-ne-ASSERT
 returns-then-command-ne-ASSERT c =
     let turn = command_turned _ _ _ c.requires.0 c.requires.1.0 c.requires.1.1 _ c.form_at-form.ensures.read _ c.command_at-command.ensures.read _ c.list_end-next.ensures.closed in
     let on = form_further _ _ _ c.requires.0 c.requires.1.0 c.requires.1.1 _ c.form_at-form.ensures.read c.form_at-form.ensures.stands in
-    rw c.at-then-command-ne-ASSERT.ensures (record { further = (omega (arith, on, c.list_end-next.ensures.stands.0), c.list_end-next.ensures.stands.1); laid = passed_laid _ _ _ c.requires.0 c.requires.1.0 c.requires.1.1 _ _ c.list_end-next.ensures.stands.1 turn c.if-command-eq-DECLARE_CONST.false c.if-command-ne-ASSERT.true })
+    rw c.at-then-command-ne-ASSERT.ensures (record {
+      further = (omega (arith, on, c.list_end-next.ensures.stands.0), c.list_end-next.ensures.stands.1);
+      laid = passed_laid _ _ _ c.requires.0 c.requires.1.0 c.requires.1.1 _ _ c.list_end-next.ensures.stands.1 turn c.if-command-eq-DECLARE_CONST.false c.if-command-ne-ASSERT.true;
+    })
 
 pub signed_name-requires : goal.signed_name-requires
 signed_name-requires c =
@@ -37,7 +43,10 @@ pub returns-then-signed_name-count : goal.returns-then-signed_name-count
 returns-then-signed_name-count c =
     let turn = command_turned _ _ _ c.requires.0 c.requires.1.0 c.requires.1.1 _ c.form_at-form.ensures.read _ c.command_at-command.ensures.read _ c.list_end-next.ensures.closed in
     let on = form_further _ _ _ c.requires.0 c.requires.1.0 c.requires.1.1 _ c.form_at-form.ensures.read c.form_at-form.ensures.stands in
-    rw c.at-then-signed_name-count.ensures (record { further = (omega (arith, on, c.list_end-next.ensures.stands.0), c.list_end-next.ensures.stands.1); laid = signed_laid _ _ _ c.requires.0 c.requires.1.0 c.requires.1.1 _ _ c.list_end-next.ensures.stands.1 turn c.if-command-ne-ASSERT.false _ c.signed_name.ensures c.if-signed_name-count.true })
+    rw c.at-then-signed_name-count.ensures (record {
+      further = (omega (arith, on, c.list_end-next.ensures.stands.0), c.list_end-next.ensures.stands.1);
+      laid = signed_laid _ _ _ c.requires.0 c.requires.1.0 c.requires.1.1 _ _ c.list_end-next.ensures.stands.1 turn c.if-command-ne-ASSERT.false _ c.signed_name.ensures c.if-signed_name-count.true;
+    })
 
 pub lay_assertion-more-requires : goal.lay_assertion-more-requires
 lay_assertion-more-requires c =
@@ -52,7 +61,10 @@ pub returns : goal.returns
 returns c =
     let turn = command_turned _ _ _ c.requires.0 c.requires.1.0 c.requires.1.1 _ c.form_at-form.ensures.read _ c.command_at-command.ensures.read _ c.list_end-next.ensures.closed in
     let on = form_further _ _ _ c.requires.0 c.requires.1.0 c.requires.1.1 _ c.form_at-form.ensures.read c.form_at-form.ensures.stands in
-    rw c.at-2.ensures (record { further = (omega (arith, on, c.list_end-next.ensures.stands.0), c.list_end-next.ensures.stands.1); laid = assertion_behind _ _ _ c.requires.0 c.requires.1.0 c.requires.1.1 _ _ c.list_end-next.ensures.stands.1 turn c.if-command-ne-ASSERT.false (asserted_next _ _ _ c.requires.0 c.requires.1.0 c.requires.1.1 _ _ c.list_end-next.ensures.stands.1 turn c.if-command-ne-ASSERT.false _ c.signed_name.ensures c.if-signed_name-count.false) _ c.lay_assertion-more.ensures })
+    rw c.at-2.ensures (record {
+      further = (omega (arith, on, c.list_end-next.ensures.stands.0), c.list_end-next.ensures.stands.1);
+      laid = assertion_behind _ _ _ c.requires.0 c.requires.1.0 c.requires.1.1 _ _ c.list_end-next.ensures.stands.1 turn c.if-command-ne-ASSERT.false (asserted_next _ _ _ c.requires.0 c.requires.1.0 c.requires.1.1 _ _ c.list_end-next.ensures.stands.1 turn c.if-command-ne-ASSERT.false _ c.signed_name.ensures c.if-signed_name-count.false) _ c.lay_assertion-more.ensures;
+    })
 
 pub overflow_sub-left : goal.overflow_sub-left
 overflow_sub-left c = c.requires.1.1

@@ -26,12 +26,22 @@ returns-then-white c =
 pub returns-then-byte-eq48 : goal.returns-then-byte-eq48
 unfolding fresh_tried
 returns-then-byte-eq48 c =
-    rw (no_letter (goal.at.returns-then-byte-eq48 c).Else-is_letter, no_white (goal.at.returns-then-byte-eq48 c).Else-white, sym c.is_digit.ensures ∙ c.if-is_digit.true, eq-eqb _ _ c.if-byte-eq48.true) at (fresh_tried_lem c.args.byte (omega arith))
+    rw (
+      no_letter (goal.at.returns-then-byte-eq48 c).Else-is_letter,
+      no_white (goal.at.returns-then-byte-eq48 c).Else-white,
+      sym c.is_digit.ensures ∙ c.if-is_digit.true,
+      eq-eqb _ _ c.if-byte-eq48.true,
+    ) at (fresh_tried_lem c.args.byte (omega arith))
 
 pub returns-else-byte-eq48 : goal.returns-else-byte-eq48
 unfolding fresh_tried
 returns-else-byte-eq48 c =
-    rw (no_letter (goal.at.returns-else-byte-eq48 c).Else-is_letter, no_white (goal.at.returns-else-byte-eq48 c).Else-white, sym c.is_digit.ensures ∙ c.if-is_digit.true, ne_eqb _ _ c.if-byte-eq48.false) at (fresh_tried_lem c.args.byte (omega arith))
+    rw (
+      no_letter (goal.at.returns-else-byte-eq48 c).Else-is_letter,
+      no_white (goal.at.returns-else-byte-eq48 c).Else-white,
+      sym c.is_digit.ensures ∙ c.if-is_digit.true,
+      ne_eqb _ _ c.if-byte-eq48.false,
+    ) at (fresh_tried_lem c.args.byte (omega arith))
 
 pub returns-in-40 : goal.returns-in-40
 unfolding fresh white is_digit among

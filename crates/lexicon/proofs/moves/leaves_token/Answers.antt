@@ -32,4 +32,11 @@ returns-in-124 c = rw c.in-124.is
 pub returns-in_default : goal.returns-in_default
 unfolding leaves_token among
 returns-in_default c =
-    rw (sym c.white.ensures ∙ c.if-white.false, ne_eqb c.args.byte 40 (omega arith), ne_eqb c.args.byte 41 (omega arith), ne_eqb c.args.byte 59 (omega arith), ne_eqb c.args.byte 34 (omega arith), ne_eqb c.args.byte 124 (omega arith))
+    rw (
+      sym c.white.ensures ∙ c.if-white.false,
+      ne_eqb c.args.byte 40 (omega arith),
+      ne_eqb c.args.byte 41 (omega arith),
+      ne_eqb c.args.byte 59 (omega arith),
+      ne_eqb c.args.byte 34 (omega arith),
+      ne_eqb c.args.byte 124 (omega arith),
+    )

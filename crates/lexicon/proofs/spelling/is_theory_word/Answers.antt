@@ -46,4 +46,12 @@ returns-in_default c =
     let size = part_length c.args.text.now c.args.from (c.args.to - c.args.from) (stretch_inside c.requires.0 c.requires.1) in
     sym
     (unlisted lengths (stretch c.args.text.now c.args.from c.args.to) theory_words refl
-    (rw (size, ne_eqb (c.args.to - c.args.from) 1 (omega arith), ne_eqb (c.args.to - c.args.from) 2 (omega arith), ne_eqb (c.args.to - c.args.from) 3 (omega arith), ne_eqb (c.args.to - c.args.from) 4 (omega arith), ne_eqb (c.args.to - c.args.from) 5 (omega arith), ne_eqb (c.args.to - c.args.from) 8 (omega arith))))
+    (rw (
+      size,
+      ne_eqb (c.args.to - c.args.from) 1 (omega arith),
+      ne_eqb (c.args.to - c.args.from) 2 (omega arith),
+      ne_eqb (c.args.to - c.args.from) 3 (omega arith),
+      ne_eqb (c.args.to - c.args.from) 4 (omega arith),
+      ne_eqb (c.args.to - c.args.from) 5 (omega arith),
+      ne_eqb (c.args.to - c.args.from) 8 (omega arith),
+    )))

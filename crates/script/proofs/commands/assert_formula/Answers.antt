@@ -6,7 +6,8 @@ pub returns-then-clause : goal.returns-then-clause
 returns-then-clause c = no_formula _ _ _ _ _ _ c.clause_from-clause.ensures.read c.if-clause.true (fault_on _ _ _ _ c.with_fault.ensures)
 
 pub returns-then-rest-ge-OPEN : goal.returns-then-rest-ge-OPEN
-returns-then-rest-ge-OPEN c = two_formulas _ _ _ _ _ _ c.clause_from-clause.ensures.read c.if-clause.false _ c.form_at-rest.ensures.read c.if-rest-ge-OPEN.true (fault_on _ _ _ _ c.with_fault-then-rest-ge-OPEN.ensures)
+returns-then-rest-ge-OPEN c =
+    two_formulas _ _ _ _ _ _ c.clause_from-clause.ensures.read c.if-clause.false _ c.form_at-rest.ensures.read c.if-rest-ge-OPEN.true (fault_on _ _ _ _ c.with_fault-then-rest-ge-OPEN.ensures)
 
 pub returns : goal.returns
 returns c = one_formula _ _ _ _ _ _ c.clause_from-clause.ensures.read c.if-clause.false _ c.form_at-rest.ensures.read c.if-rest-ge-OPEN.false c.with_assertion.ensures

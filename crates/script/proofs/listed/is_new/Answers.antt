@@ -10,4 +10,5 @@ pub returns-then-is_theory_word : goal.returns-then-is_theory_word
 returns-then-is_theory_word c = rw (symbol_is c.requires.0.word_is c.if-form-ne-SYMBOL.false, sym c.is_theory_word.ensures ∙ c.if-is_theory_word.true) refl
 
 pub returns : goal.returns
-returns c = rw (symbol_is c.requires.0.word_is c.if-form-ne-SYMBOL.false, sym c.is_theory_word.ensures ∙ c.if-is_theory_word.false) (index_tells _ _ _ _ c.name_index.ensures)
+returns c =
+    rw (symbol_is c.requires.0.word_is c.if-form-ne-SYMBOL.false, sym c.is_theory_word.ensures ∙ c.if-is_theory_word.false) (index_tells _ _ _ _ c.name_index.ensures)

@@ -5,7 +5,8 @@ use Rattle.script.proofs.Listing.{no_parts, part_here, some_part}
 use Rattle.script.proofs.listed.parts_behind.Goals as goal
 
 pub returns-then-third-lt-OPEN : goal.returns-then-third-lt-OPEN
-returns-then-third-lt-OPEN c = rw (no_parts _ _ _ _ c.form_at-third.ensures.read c.requires.0.unbroken c.if-third-lt-OPEN.true) (two_parts refl c.requires.1.0 c.requires.1.1)
+returns-then-third-lt-OPEN c =
+    rw (no_parts _ _ _ _ c.form_at-third.ensures.read c.requires.0.unbroken c.if-third-lt-OPEN.true) (two_parts refl c.requires.1.0 c.requires.1.1)
 
 pub returns-then-fourth-lt-OPEN : goal.returns-then-fourth-lt-OPEN
 returns-then-fourth-lt-OPEN c =

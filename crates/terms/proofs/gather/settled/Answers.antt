@@ -25,11 +25,17 @@ numeral_there head count b e h = ((and-eq-true_iff b (eqb count 2)).0 (rw h at e
 
 pub returns-then-not-is_shapely : goal.returns-then-not-is_shapely
 returns-then-not-is_shapely c =
-    rw c.outside.ensures (record { next = (refl, refl); says = λ h ts e few had. misshapen_says c.args.place c.args.next h ts (rw e at few) had (rw e at (shape (goal.at.returns-then-not-is_shapely c).After-is_shapely false c.if-not-is_shapely.true)) })
+    rw c.outside.ensures (record {
+      next = (refl, refl);
+      says = λ h ts e few had. misshapen_says c.args.place c.args.next h ts (rw e at few) had (rw e at (shape (goal.at.returns-then-not-is_shapely c).After-is_shapely false c.if-not-is_shapely.true));
+    })
 
 pub returns-then-fault : goal.returns-then-fault
 returns-then-fault c =
-    rw c.faulty.ensures (record { next = (refl, refl); says = λ h ts e few had. faulty_says c.args.place c.args.next h ts (rw e at few) had (rw e at (shape (goal.at.returns-then-fault c).After-is_shapely true c.if-not-is_shapely.false)) c.if-fault.true })
+    rw c.faulty.ensures (record {
+      next = (refl, refl);
+      says = λ h ts e few had. faulty_says c.args.place c.args.next h ts (rw e at few) had (rw e at (shape (goal.at.returns-then-fault c).After-is_shapely true c.if-not-is_shapely.false)) c.if-fault.true;
+    })
 
 pub numbers_by-numbers-requires : goal.numbers_by-numbers-requires
 numbers_by-numbers-requires c =
@@ -38,9 +44,15 @@ numbers_by-numbers-requires c =
 pub returns-then-within : goal.returns-then-within
 returns-then-within c =
     let seven = first_seven (goal.at.returns-then-within c).Start in
-    rw c.of.ensures (record { next = (refl, refl); says = λ h ts e few had. sound_says c.args.place c.args.next h ts (rw e at few) had (rw e at (shape (goal.at.returns-then-within c).After-is_shapely true c.if-not-is_shapely.false)) c.if-fault.false seven (rw e at c.numbers_by-numbers.ensures) (sym c.within.ensures ∙ c.if-within.true) })
+    rw c.of.ensures (record {
+      next = (refl, refl);
+      says = λ h ts e few had. sound_says c.args.place c.args.next h ts (rw e at few) had (rw e at (shape (goal.at.returns-then-within c).After-is_shapely true c.if-not-is_shapely.false)) c.if-fault.false seven (rw e at c.numbers_by-numbers.ensures) (sym c.within.ensures ∙ c.if-within.true);
+    })
 
 pub returns : goal.returns
 returns c =
     let seven = first_seven (goal.at.returns c).Start in
-    rw c.outside-2.ensures (record { next = (refl, refl); says = λ h ts e few had. beyond_says c.args.place c.args.next h ts (rw e at few) had (rw e at (shape (goal.at.returns c).After-is_shapely true c.if-not-is_shapely.false)) c.if-fault.false seven (rw e at c.numbers_by-numbers.ensures) (sym c.within.ensures ∙ c.if-within.false) })
+    rw c.outside-2.ensures (record {
+      next = (refl, refl);
+      says = λ h ts e few had. beyond_says c.args.place c.args.next h ts (rw e at few) had (rw e at (shape (goal.at.returns c).After-is_shapely true c.if-not-is_shapely.false)) c.if-fault.false seven (rw e at c.numbers_by-numbers.ensures) (sym c.within.ensures ∙ c.if-within.false);
+    })

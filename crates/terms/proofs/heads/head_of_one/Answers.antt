@@ -7,7 +7,15 @@ use Rattle.terms.proofs.heads.head_of_one.Goals as goal
 pub returns-in_default : goal.returns-in_default
 returns-in_default c =
     let b = c.args.byte in
-    rw (head_one b, ne_eqb b 43 (omega arith), ne_eqb b 45 (omega arith), ne_eqb b 42 (omega arith), ne_eqb b 61 (omega arith), ne_eqb b 60 (omega arith), ne_eqb b 62 (omega arith))
+    rw (
+      head_one b,
+      ne_eqb b 43 (omega arith),
+      ne_eqb b 45 (omega arith),
+      ne_eqb b 42 (omega arith),
+      ne_eqb b 61 (omega arith),
+      ne_eqb b 60 (omega arith),
+      ne_eqb b 62 (omega arith),
+    )
 
 pub returns-in-43 : goal.returns-in-43
 returns-in-43 c = rw (head_one c.args.byte, c.in-43.is)

@@ -17,12 +17,15 @@ module _ (s : goal.Start) where
 
 pub returns-then-spelt : goal.returns-then-spelt
 returns-then-spelt c =
-    rw (head_three (spelled (goal.at.returns-then-spelt c).Start) (long (goal.at.returns-then-spelt c).Start), sym c.spelt.ensures ∙ c.if-spelt.true)
+    let k = (goal.at.returns-then-spelt c).Start in
+    rw (head_three (spelled k) (long k), sym c.spelt.ensures ∙ c.if-spelt.true)
 
 pub returns-then-spelt-2 : goal.returns-then-spelt-2
 returns-then-spelt-2 c =
-    rw (head_three (spelled (goal.at.returns-then-spelt-2 c).Start) (long (goal.at.returns-then-spelt-2 c).Start), sym c.spelt.ensures ∙ c.if-spelt.false, sym c.spelt-2.ensures ∙ c.if-spelt-2.true)
+    let k = (goal.at.returns-then-spelt-2 c).Start in
+    rw (head_three (spelled k) (long k), sym c.spelt.ensures ∙ c.if-spelt.false, sym c.spelt-2.ensures ∙ c.if-spelt-2.true)
 
 pub returns : goal.returns
 returns c =
-    rw (head_three (spelled (goal.at.returns c).Start) (long (goal.at.returns c).Start), sym c.spelt.ensures ∙ c.if-spelt.false, sym c.spelt-2.ensures ∙ c.if-spelt-2.false)
+    let k = (goal.at.returns c).Start in
+    rw (head_three (spelled k) (long k), sym c.spelt.ensures ∙ c.if-spelt.false, sym c.spelt-2.ensures ∙ c.if-spelt-2.false)

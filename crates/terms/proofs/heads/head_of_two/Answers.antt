@@ -17,16 +17,19 @@ module _ (s : goal.Start) where
 
 pub returns-then-spelt : goal.returns-then-spelt
 returns-then-spelt c =
-    rw (head_two (spelled (goal.at.returns-then-spelt c).Start) (long (goal.at.returns-then-spelt c).Start), sym c.spelt.ensures ∙ c.if-spelt.true)
+    let k = (goal.at.returns-then-spelt c).Start in
+    rw (head_two (spelled k) (long k), sym c.spelt.ensures ∙ c.if-spelt.true)
 
 pub returns-then-spelt-2 : goal.returns-then-spelt-2
 returns-then-spelt-2 c =
-    rw (head_two (spelled (goal.at.returns-then-spelt-2 c).Start) (long (goal.at.returns-then-spelt-2 c).Start), sym c.spelt.ensures ∙ c.if-spelt.false, sym c.spelt-2.ensures ∙ c.if-spelt-2.true)
+    let k = (goal.at.returns-then-spelt-2 c).Start in
+    rw (head_two (spelled k) (long k), sym c.spelt.ensures ∙ c.if-spelt.false, sym c.spelt-2.ensures ∙ c.if-spelt-2.true)
 
 pub returns-then-spelt-3 : goal.returns-then-spelt-3
 returns-then-spelt-3 c =
+    let k = (goal.at.returns-then-spelt-3 c).Start in
     rw (
-      head_two (spelled (goal.at.returns-then-spelt-3 c).Start) (long (goal.at.returns-then-spelt-3 c).Start),
+      head_two (spelled k) (long k),
       sym c.spelt.ensures ∙ c.if-spelt.false,
       sym c.spelt-2.ensures ∙ c.if-spelt-2.false,
       sym c.spelt-3.ensures ∙ c.if-spelt-3.true,
@@ -34,8 +37,9 @@ returns-then-spelt-3 c =
 
 pub returns : goal.returns
 returns c =
+    let k = (goal.at.returns c).Start in
     rw (
-      head_two (spelled (goal.at.returns c).Start) (long (goal.at.returns c).Start),
+      head_two (spelled k) (long k),
       sym c.spelt.ensures ∙ c.if-spelt.false,
       sym c.spelt-2.ensures ∙ c.if-spelt-2.false,
       sym c.spelt-3.ensures ∙ c.if-spelt-3.false,

@@ -23,7 +23,8 @@ returns-then-sum-gt-MOST_LOW c =
     simp (to_z-of_z, z.low_fits, z.part_fits, z.sum_fits, z.less_fits, z.high_fits, z.next_fits) (carried_up c.args.low c.args.high c.args.part c.requires t)
 
 pub overflow_add-result-then-sum-lt-LEAST_LOW : goal.overflow_add-result-then-sum-lt-LEAST_LOW
-overflow_add-result-then-sum-lt-LEAST_LOW c = let z = sizes (goal.at.overflow_add-result-then-sum-lt-LEAST_LOW c).Start in simp (to_z-of_z, z.low_fits, z.part_fits, z.sum_fits) z.more_fits
+overflow_add-result-then-sum-lt-LEAST_LOW c =
+    let z = sizes (goal.at.overflow_add-result-then-sum-lt-LEAST_LOW c).Start in simp (to_z-of_z, z.low_fits, z.part_fits, z.sum_fits) z.more_fits
 
 pub overflow_sub-result-then-sum-lt-LEAST_LOW : goal.overflow_sub-result-then-sum-lt-LEAST_LOW
 overflow_sub-result-then-sum-lt-LEAST_LOW c = let z = sizes (goal.at.overflow_sub-result-then-sum-lt-LEAST_LOW c).Start in simp (to_z-of_z, z.high_fits) z.back_fits

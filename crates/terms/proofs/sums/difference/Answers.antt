@@ -28,12 +28,14 @@ module _ (c : goal.In-loop-i) where
 
 pub overflow_sub-numbers : goal.overflow_sub-numbers
 overflow_sub-numbers c =
-    simp (to_z-of_z, number_fits (first (goal.at.overflow_sub-numbers c).In-loop-i) (first_small (goal.at.overflow_sub-numbers c).In-loop-i), number_fits (second (goal.at.overflow_sub-numbers c).In-loop-i) (second_small (goal.at.overflow_sub-numbers c).In-loop-i)) (difference_fits (first (goal.at.overflow_sub-numbers c).In-loop-i) (second (goal.at.overflow_sub-numbers c).In-loop-i) (first_small (goal.at.overflow_sub-numbers c).In-loop-i) (second_small (goal.at.overflow_sub-numbers c).In-loop-i))
+    let k = (goal.at.overflow_sub-numbers c).In-loop-i in
+    simp (to_z-of_z, number_fits (first k) (first_small k), number_fits (second k) (second_small k)) (difference_fits (first k) (second k) (first_small k) (second_small k))
 
 pub loop-i-preserved : goal.loop-i-preserved
 loop-i-preserved c =
-    let d = difference_fits (first (goal.at.loop-i-preserved c).In-loop-i) (second (goal.at.loop-i-preserved c).In-loop-i) (first_small (goal.at.loop-i-preserved c).In-loop-i) (second_small (goal.at.loop-i-preserved c).In-loop-i) in
-    simp (to_z-of_z, number_fits (first (goal.at.loop-i-preserved c).In-loop-i) (first_small (goal.at.loop-i-preserved c).In-loop-i), number_fits (second (goal.at.loop-i-preserved c).In-loop-i) (second_small (goal.at.loop-i-preserved c).In-loop-i), d)
+    let k = (goal.at.loop-i-preserved c).In-loop-i in
+    let d = difference_fits (first k) (second k) (first_small k) (second_small k) in
+    simp (to_z-of_z, number_fits (first k) (first_small k), number_fits (second k) (second_small k), d)
     (filled_next c.loop-i.invariant c.loop-i-test.true refl)
 
 pub returns : goal.returns

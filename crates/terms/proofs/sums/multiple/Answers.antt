@@ -21,12 +21,14 @@ module _ (c : goal.In-loop-i) where
 
 pub overflow_mul-numbers : goal.overflow_mul-numbers
 overflow_mul-numbers c =
-    simp (to_z-of_z, c.ranges.factor, number_fits (number (goal.at.overflow_mul-numbers c).In-loop-i) (number_small (goal.at.overflow_mul-numbers c).In-loop-i)) (multiple_fits c.args.factor (number (goal.at.overflow_mul-numbers c).In-loop-i) c.requires.0 (number_small (goal.at.overflow_mul-numbers c).In-loop-i))
+    let k = (goal.at.overflow_mul-numbers c).In-loop-i in
+    simp (to_z-of_z, c.ranges.factor, number_fits (number k) (number_small k)) (multiple_fits c.args.factor (number k) c.requires.0 (number_small k))
 
 pub loop-i-preserved : goal.loop-i-preserved
 loop-i-preserved c =
-    let p = multiple_fits c.args.factor (number (goal.at.loop-i-preserved c).In-loop-i) c.requires.0 (number_small (goal.at.loop-i-preserved c).In-loop-i) in
-    simp (to_z-of_z, c.ranges.factor, number_fits (number (goal.at.loop-i-preserved c).In-loop-i) (number_small (goal.at.loop-i-preserved c).In-loop-i), p)
+    let k = (goal.at.loop-i-preserved c).In-loop-i in
+    let p = multiple_fits c.args.factor (number k) c.requires.0 (number_small k) in
+    simp (to_z-of_z, c.ranges.factor, number_fits (number k) (number_small k), p)
     (filled_next (simp (to_z-of_z, c.ranges.factor) at c.loop-i.invariant) c.loop-i-test.true refl)
 
 pub returns : goal.returns
