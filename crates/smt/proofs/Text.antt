@@ -8,6 +8,7 @@ use lib.ListN.{length, take}
 use lib.IntN.{ℤ}
 use base.Fml.{Lft}
 use denote.Ref.{Bor}
+use denote.MutBor.{MutBor}
 use Rattle.scope.specs.declared.Refusal.{Refusal}
 use Rattle.scope.specs.declared.ReadAnswer.{ReadAnswer}
 use Rattle.scope.specs.Words.{Word, spelled}
@@ -22,7 +23,7 @@ use Rattle.smt.specs.Solved.{names_count, solved}
 use Rattle.smt.specs.Printed.{StartsWith, UnsatPrinted, SatPrinted, UnknownPrinted, ErrorPrinted, unsat_printed, sat_printed, unknown_printed, error_printed, error_line_lem, unsat_means, sat_model}
 use Rattle.smt.proofs.answer_to.Reads as answer-to
 
-module _ (κ μ : Lft) (text out out₁ : Bor (List ℕ)) (r : ℕ) (p : answer-to.Post (κ, (μ, tt)) (text, (out, tt)) r (text, (out₁, tt))) where
+module _ (κ μ : Lft) (text : Bor (List ℕ)) (out out₁ : MutBor (List ℕ)) (r : ℕ) (p : answer-to.Post (κ, (μ, tt)) (text, (out, tt)) r (text, (out₁, tt))) where
   -- the text is at the front of the buffer
   pub text_is : take r out₁.now ≡ solved text.now
   text_is = p.printed
@@ -60,7 +61,7 @@ module _ (κ μ : Lft) (text out out₁ : Bor (List ℕ)) (r : ℕ) (p : answer-
   error_says ρ e = text_is ∙ error_line_lem text.now ρ e
 
 -- whatever the buffers and wherever they lie
-pub text_once : (κ μ λ₁ λ₂ : Lft) (text text₂ out out₁ out₂ out₃ : Bor (List ℕ)) (r s : ℕ) → text.now ≡ text₂.now
+pub text_once : (κ μ λ₁ λ₂ : Lft) (text text₂ : Bor (List ℕ)) (out out₁ out₂ out₃ : MutBor (List ℕ)) (r s : ℕ) → text.now ≡ text₂.now
     → answer-to.Post (κ, (μ, tt)) (text, (out, tt)) r (text, (out₁, tt)) → answer-to.Post (λ₁, (λ₂, tt)) (text₂, (out₂, tt)) s (text₂, (out₃, tt))
     → (r ≡ s) × (take r out₁.now ≡ take s out₃.now)
 text_once κ μ λ₁ λ₂ text text₂ out out₁ out₂ out₃ r s e p q =

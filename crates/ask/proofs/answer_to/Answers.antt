@@ -10,8 +10,7 @@ use Rattle.scope.specs.Wire.{read_held}
 use Rattle.told.specs.Text.{longest, text_of, TextTells}
 use Rattle.told.specs.Told.{told_whole}
 use Rattle.ask.specs.Asked.{variables, decided_for, asked, Asked}
-use Rattle.ask.proofs.answer_to.Statement.{statement}
-use Rattle.ask.proofs.answer_to.Tie as tie
+use Rattle.ask.proofs.answer_to.Goals as goal
 
 same_text : {n m : ℕ} {a b : DecideAnswer} {w v : List ℕ} → n ≡ m → a ≡ b → w ≡ v → text_of n a w ≡ text_of m b v
 same_text e f g = rw (e, f, g)
@@ -24,12 +23,8 @@ is_asked bytes n answer word out r l e f g h t =
     let s : text_of n answer word ≡ asked bytes = same_text e f g in
     record { ends = w.0 ∙ ap length s; text = w.1 ∙ s; within = w.2 }
 
-returns : tie.Need-returns
+pub returns : goal.returns
 unfolding decided_for
 returns c =
-    let s = c.before.before.before.before.before.before.before.before.before.before.before.before.before.before.before.before.before in
-    let d = c.before.before.before.before.before.before.before.before.before.before.before.decide.ensures in
-    is_asked s.args.question.now _ _ _ s.args.out.now _ _ (ap (λ (h : Held). h.question.n) c.before.before.before.before.before.before.before.read.ensures) d.answer d.word s.requires c.before.before.tell.ensures
-
-pub answer-to-spec : {M : Type 1} → statement M
-answer-to-spec = tie.close (tie.spec (λ c. search rules) (λ c. search rules) (λ c. search rules) (λ c κs. search rules) (λ c κs. search rules) (λ c. search rules) (λ c. search rules) (λ c κs. search rules) (λ c. search rules) returns)
+    let d = c.decide-answer.ensures in
+    is_asked c.args.question.now _ _ _ c.args.out.now _ _ (ap (λ (h : Held). h.question.n) c.read-held.ensures) d.answer d.word c.requires c.tell.ensures
