@@ -1,4 +1,4 @@
-// The calls as C and Rust link them: a number passes as itself, a slice as a pointer and a length. A call answers document 01's
+// The calls as C and Rust link them, under the names that `pelohuaki_archive` exports. A call answers document 01's
 // refusal number, 0 where nothing is refused, and puts the rest of its answer into `told`, as many cells of it as are lent.
 #![tactic(auto)]
 
@@ -21,16 +21,14 @@ use lent::{
 use reading::PartsAnswer;
 use scope::{Question, ReadAnswer};
 
-#[unsafe(no_mangle)]
-pub extern "C" fn pelohuaki_record_at(bytes: &[u8], at: usize, told: &mut [u64]) -> u64
+pub fn pelohuaki_record_at(bytes: &[u8], at: usize, told: &mut [u64]) -> u64
     ensures { Gives 4 (record_told (record_at bytes.now at)) told.old result told.new }
 {
     let answer = records::record_at(bytes, at);
     tell_record(answer, told)
 }
 
-#[unsafe(no_mangle)]
-pub extern "C" fn pelohuaki_read(
+pub fn pelohuaki_read(
     bytes: &[u8],
     codes: &mut [u8],
     coefficients: &mut [i32],
@@ -63,8 +61,7 @@ pub extern "C" fn pelohuaki_read(
     }
 }
 
-#[unsafe(no_mangle)]
-pub extern "C" fn pelohuaki_write(
+pub fn pelohuaki_write(
     n: u8,
     codes: &[u8],
     coefficients: &[i32],
@@ -89,8 +86,7 @@ pub extern "C" fn pelohuaki_write(
     tell_written(answer, told)
 }
 
-#[unsafe(no_mangle)]
-pub extern "C" fn pelohuaki_import(
+pub fn pelohuaki_import(
     text: &[u8],
     codes: &mut [u8],
     coefficients: &mut [i32],
@@ -124,16 +120,14 @@ pub extern "C" fn pelohuaki_import(
     }
 }
 
-#[unsafe(no_mangle)]
-pub extern "C" fn pelohuaki_judge(bytes: &[u8], values: &[u64], told: &mut [u64]) -> u64
+pub fn pelohuaki_judge(bytes: &[u8], values: &[u64], told: &mut [u64]) -> u64
     ensures { Gives 1 (truth_told (judged bytes.now values.now)) told.old result told.new }
 {
     let answer = judge::judge(bytes, values);
     tell_truth(answer, told)
 }
 
-#[unsafe(no_mangle)]
-pub extern "C" fn pelohuaki_decide(
+pub fn pelohuaki_decide(
     bytes: &[u8],
     keys: &mut [i32],
     path: &mut [u16],
@@ -146,29 +140,21 @@ pub extern "C" fn pelohuaki_decide(
     tell_decided(answer, told)
 }
 
-#[unsafe(no_mangle)]
-pub extern "C" fn pelohuaki_build(
-    bytes: &[u8],
-    keys: &mut [i32],
-    table: &mut [u16],
-    told: &mut [u64],
-) -> u64
+pub fn pelohuaki_build(bytes: &[u8], keys: &mut [i32], table: &mut [u16], told: &mut [u64]) -> u64
     ensures { BuildsInto (built bytes.now keys.old table.old) told.old result keys.new table.new told.new }
 {
     let answer = build::build(bytes, keys, table);
     tell_built(answer, told)
 }
 
-#[unsafe(no_mangle)]
-pub extern "C" fn pelohuaki_run(n: usize, cells: &[u16], word: &[u8], told: &mut [u64]) -> u64
+pub fn pelohuaki_run(n: usize, cells: &[u16], word: &[u8], told: &mut [u64]) -> u64
     ensures { Gives 1 (truth_told (ran n cells.now word.now)) told.old result told.new }
 {
     let answer = words::run(n, cells, word);
     tell_truth(answer, told)
 }
 
-#[unsafe(no_mangle)]
-pub extern "C" fn pelohuaki_spell(n: usize, variable: usize, word: &[u8], told: &mut [u64]) -> u64
+pub fn pelohuaki_spell(n: usize, variable: usize, word: &[u8], told: &mut [u64]) -> u64
     ensures { Gives 1 (spell_told (spelt n variable word.now)) told.old result told.new }
 {
     let answer = words::spell(n, variable, word);

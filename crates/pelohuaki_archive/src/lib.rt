@@ -1,0 +1,107 @@
+// What the archive exports to C and Rust: the calls of `pelohuaki_c` under their names, one by one. A slice crosses as a pointer and a length.
+#![tactic(auto)]
+
+ghost use Rattle.scope.specs.Refusals.{record_told, truth_told, spell_told};
+ghost use Rattle.scope.specs.Wire.{record_at, read_held};
+ghost use Rattle.scope.specs.Writing.{wrote};
+ghost use Rattle.scope.specs.Judging.{judged};
+ghost use Rattle.scope.specs.Deciding.{decided};
+ghost use Rattle.scope.specs.Building.{built};
+ghost use Rattle.scope.specs.Running.{ran};
+ghost use Rattle.scope.specs.Words.{spelt};
+ghost use Rattle.importing.specs.Given.{import_given};
+ghost use Rattle.lent.specs.Told.{Gives, ReadsInto, WritesInto, ImportsInto, DecidesInto, BuildsInto};
+ghost use Rattle.lent.specs.Lent.{lent_question};
+
+#[unsafe(no_mangle)]
+pub extern "C" fn pelohuaki_record_at(bytes: &[u8], at: usize, told: &mut [u64]) -> u64
+    ensures { Gives 4 (record_told (record_at bytes.now at)) told.old result told.new }
+{
+    pelohuaki_c::pelohuaki_record_at(bytes, at, told)
+}
+
+#[unsafe(no_mangle)]
+pub extern "C" fn pelohuaki_read(
+    bytes: &[u8],
+    codes: &mut [u8],
+    coefficients: &mut [i32],
+    constants: &mut [i32],
+    told: &mut [u64],
+) -> u64
+    ensures { ReadsInto (read_held bytes.now) codes.old coefficients.old constants.old told.old result codes.new coefficients.new constants.new told.new }
+{
+    pelohuaki_c::pelohuaki_read(bytes, codes, coefficients, constants, told)
+}
+
+#[unsafe(no_mangle)]
+pub extern "C" fn pelohuaki_write(
+    n: u8,
+    codes: &[u8],
+    coefficients: &[i32],
+    constants: &[i32],
+    bytes: &mut [u8],
+    told: &mut [u64],
+) -> u64
+    ensures { WritesInto (wrote (lent_question n codes.now coefficients.now constants.now) bytes.old) told.old result bytes.new told.new }
+{
+    pelohuaki_c::pelohuaki_write(n, codes, coefficients, constants, bytes, told)
+}
+
+#[unsafe(no_mangle)]
+pub extern "C" fn pelohuaki_import(
+    text: &[u8],
+    codes: &mut [u8],
+    coefficients: &mut [i32],
+    constants: &mut [i32],
+    told: &mut [u64],
+) -> u64
+    ensures { ImportsInto (import_given text.now).held (import_given text.now).names codes.old coefficients.old constants.old told.old result codes.new coefficients.new constants.new told.new }
+{
+    pelohuaki_c::pelohuaki_import(text, codes, coefficients, constants, told)
+}
+
+#[unsafe(no_mangle)]
+pub extern "C" fn pelohuaki_judge(bytes: &[u8], values: &[u64], told: &mut [u64]) -> u64
+    ensures { Gives 1 (truth_told (judged bytes.now values.now)) told.old result told.new }
+{
+    pelohuaki_c::pelohuaki_judge(bytes, values, told)
+}
+
+#[unsafe(no_mangle)]
+pub extern "C" fn pelohuaki_decide(
+    bytes: &[u8],
+    keys: &mut [i32],
+    path: &mut [u16],
+    word: &mut [u8],
+    told: &mut [u64],
+) -> u64
+    ensures { DecidesInto (decided bytes.now keys.old path.old word.old) told.old result keys.new path.new word.new told.new }
+{
+    pelohuaki_c::pelohuaki_decide(bytes, keys, path, word, told)
+}
+
+#[unsafe(no_mangle)]
+pub extern "C" fn pelohuaki_build(
+    bytes: &[u8],
+    keys: &mut [i32],
+    table: &mut [u16],
+    told: &mut [u64],
+) -> u64
+    ensures { BuildsInto (built bytes.now keys.old table.old) told.old result keys.new table.new told.new }
+{
+    pelohuaki_c::pelohuaki_build(bytes, keys, table, told)
+}
+
+#[unsafe(no_mangle)]
+pub extern "C" fn pelohuaki_run(n: usize, cells: &[u16], word: &[u8], told: &mut [u64]) -> u64
+    ensures { Gives 1 (truth_told (ran n cells.now word.now)) told.old result told.new }
+{
+    pelohuaki_c::pelohuaki_run(n, cells, word, told)
+}
+
+#[unsafe(no_mangle)]
+pub extern "C" fn pelohuaki_spell(n: usize, variable: usize, word: &[u8], told: &mut [u64]) -> u64
+    ensures { Gives 1 (spell_told (spelt n variable word.now)) told.old result told.new }
+{
+    pelohuaki_c::pelohuaki_spell(n, variable, word, told)
+}
