@@ -16,7 +16,7 @@ use Rattle.scope.specs.Wire.{Reading, Ended, body_length, node_at, coefficients_
 use Rattle.theory.specs.Wire.Held.{Sized}
 use Rattle.theory.specs.Wire.Checks.{onward_stopped}
 use Rattle.records.specs.declared.nodes.NodeAnswer.{NodeAnswer}
-use Rattle.records.specs.Formula.{Known, KnownSound, Grown, Unread, due_of, shape_of, due_depth, later_of}
+use Rattle.records.specs.Formula.{Known, KnownSound, Grown, due_of, shape_of, due_depth, later_of}
 use Rattle.records.specs.Parts.{held_question}
 use Rattle.records.proofs.Due.{due_first, due_none, grown_nodes, onward_first}
 use Rattle.reading.specs.Steps.{node_answer, reading_at}
@@ -102,11 +102,6 @@ module _ {b : List ℕ} {q₀ : Question} {s₀ : Known} {p₀ : ℕ} {q : Quest
           })) ∙ sym (turn_taken b q s p left.sound t code k))
               ∙ sym first);
         }
-
-pub left_start : (b : List ℕ) (q : Question) (s : Known) (p : ℕ) → Unread s → p ≤ length b → Sized q → Left b q s p q s p
-left_start b q s p u h l =
-    let m : s.nodes ≡ 0 = ap (λ (w : wire.Shape). w.nodes) u.shape in
-    record { sound = u.sound; within = h; full = l; rest = rw m }
 
 -- ---- the end, into lent parts
 

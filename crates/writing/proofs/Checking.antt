@@ -3,16 +3,15 @@ use mathlib.Core.Path.{◌≡◌, refl, sym, ap, ◌∙◌}
 use mathlib.Core.Bool.{Bool, true, false, not, cond}
 use mathlib.Core.Option.{Option, none, some}
 use mathlib.Core.List.{[], ◌++◌}
-use Prim.Native.Nat.{ℕ, zero, suc, ◌+◌, ◌<◌, ◌≤◌}
-use native.Mathlib.Omega.{arith}
-use borrow.Author.Tests.{lt-ltb, le-ltb, lt-leb, ne_eqb}
-use lib.Dec.{T, leb, ltb, leb→le, ltb→lt}
+use Prim.Native.Nat.{ℕ, ◌+◌, ◌<◌, ◌≤◌}
+use borrow.Author.Tests.{lt-ltb, le-ltb}
+use lib.Dec.{T, ltb, leb→le, ltb→lt}
 use lib.ListN.{get_or}
 use Rattle.scope.specs.declared.Question.{Question}
 use Rattle.scope.specs.declared.Refusal.{Refusal}
 use Rattle.scope.specs.Whole.{all_from}
 use Rattle.scope.specs.Sizes.{most_atoms, most_nodes, most_depth, variables_fit}
-use Rattle.scope.specs.Question.{Node, unused, node_of, is_unused, is_atom, coefficients_of, constant_of}
+use Rattle.scope.specs.Question.{Node, is_unused, is_atom, coefficients_of, constant_of}
 use Rattle.scope.specs.Refusals.{NOT_DUE, BEYOND_LIMIT, TOO_MANY, LEFT_OVER, refusal, first_refusal, Progress, stopped, going, ended, or_stopped, onward}
 use Rattle.scope.specs.Wire.{end_kind, field_checks}
 use Rattle.scope.specs.Writing.{record_bytes, Walk, first_walk, head_written, node_held, node_held_checks, part_written, numbers_clear, number_checks, left_over_checks, end_written, written}
@@ -52,20 +51,6 @@ module _ (q : Question) (a : ℕ) where
   clear_alone = refl
 
 -- ---- a node's code
-
-other_code : (c : ℕ) → 6 ≤ c → node_of c ≡ unused
-other_code c h =
-    simp (ne_eqb c 1 (λ e. omega arith), ne_eqb c 2 (λ e. omega arith), ne_eqb c 3 (λ e. omega arith), ne_eqb c 4 (λ e. omega arith), ne_eqb c 5 (λ e. omega arith))
-
-pub node_test : (c : ℕ) → (c ≡ 0 → ⊥) → leb c 5 ≡ not (is_unused (node_of c))
-node_test zero h = absurd (h refl)
-node_test (suc zero) h = refl
-node_test (suc (suc zero)) h = refl
-node_test (suc (suc (suc zero))) h = refl
-node_test (suc (suc (suc (suc zero)))) h = refl
-node_test (suc (suc (suc (suc (suc zero))))) h = refl
-node_test (suc (suc (suc (suc (suc (suc c)))))) h =
-    rw (lt-leb (suc (suc (suc (suc (suc (suc c)))))) 5 (omega arith), other_code (suc (suc (suc (suc (suc (suc c)))))) (omega arith))
 
 module _ (q : Question) (depth : ℕ) (w : Walk) where
   abbrev i : ℕ

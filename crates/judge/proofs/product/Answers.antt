@@ -23,11 +23,5 @@ sizes a x h = record {
   whole = fits_abs w64 (a *ℤ pos x) (omega (arith, product_small a x h.0 h.1));
 }
 
-pub overflow_cast-result : goal.overflow_cast-result
-overflow_cast-result c = let z = sizes c.args.a c.args.x c.requires in simp (to_z-of_z, c.ranges.a) z.wide
-
-pub overflow_mul-result : goal.overflow_mul-result
-overflow_mul-result c = let z = sizes c.args.a c.args.x c.requires in simp (to_z-of_z, c.ranges.a, z.wide, z.value) z.whole
-
 pub returns : goal.returns
 returns c = let z = sizes c.args.a c.args.x c.requires in simp (to_z-of_z, c.ranges.a, z.wide, z.value, z.whole)

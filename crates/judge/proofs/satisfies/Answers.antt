@@ -1,14 +1,10 @@
 -- `judge::satisfies` meets its contract. Assumes nothing.
-use mathlib.Core.Path.{sym, ap, ◌∙◌, subst}
+use mathlib.Core.Path.{ap, ◌∙◌}
 use Rattle.scope.specs.declared.Question.{Question}
 use Rattle.scope.specs.States.{satisfied}
-use Rattle.judge.specs.Atoms.{question_for, Judgeable}
+use Rattle.judge.specs.Atoms.{question_for}
 use Rattle.judge.proofs.Noting.{asked_is, worths_satisfy}
 use Rattle.judge.proofs.satisfies.Goals as goal
-
-pub worths_of-worths-requires : goal.worths_of-worths-requires
-worths_of-worths-requires c =
-    subst (λ (q : Question). Judgeable q c.args.values.now) (sym (asked_is c.args.q c.args.values.now c.requires.count)) c.requires
 
 pub returns : goal.returns
 returns c =

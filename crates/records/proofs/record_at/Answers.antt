@@ -13,25 +13,10 @@ pub returns-in_default : goal.returns-in_default
 returns-in_default c =
     step_short c.args.bytes.now c.args.at (cut c.args.bytes.now c.args.at (sym c.header_at.ensures ∙ c.in_default.is))
 
-pub overflow_sub-n : goal.overflow_sub-n
-overflow_sub-n c = omega (arith, header c)
-
-pub overflow_sub-n-2 : goal.overflow_sub-n-2
-overflow_sub-n-2 c = omega (arith, header c)
-
 pub returns-then-n-at : goal.returns-then-n-at
 returns-then-n-at c =
     let h = header (goal.at.returns-then-n-at c).In-Header in
     step_cut c.args.bytes.now c.args.at h.there (omega (arith, h.len_is))
-
-pub overflow_add-result : goal.overflow_add-result
-overflow_add-result c = omega (arith, header (goal.at.overflow_add-result c).In-Header)
-
-pub overflow_add-result-2 : goal.overflow_add-result-2
-overflow_add-result-2 c = omega (arith, header (goal.at.overflow_add-result-2 c).In-Header)
-
-pub overflow_add-result-3 : goal.overflow_add-result-3
-overflow_add-result-3 c = omega (arith, header (goal.at.overflow_add-result-3 c).In-Header)
 
 pub returns : goal.returns
 returns c =

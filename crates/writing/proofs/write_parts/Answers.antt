@@ -1,5 +1,4 @@
 -- `writing::write_parts` meets its contract: refused, too short a buffer, or written.
-use native.Mathlib.Omega.{arith}
 use Rattle.scope.specs.declared.Question.{Question}
 use Rattle.records.specs.Parts.{held_question}
 use Rattle.writing.specs.Writes.{CheckedSays}
@@ -15,25 +14,9 @@ held c = held_question c.args.n c.args.codes.now c.args.coefficients.now c.args.
 formula : (c : goal.In-Formula) → CheckedSays (held_question c.args.n c.args.codes.now c.args.coefficients.now c.args.constants.now) (FormulaAnswer.Formula c.in-Formula.nodes c.in-Formula.atoms c.in-Formula.len)
 formula c = rw c.in-Formula.is at c.checked.ensures
 
-pub overflow_add-all : goal.overflow_add-all
-overflow_add-all c = omega (arith, (formula c).0.short)
-
 pub returns-then-bytes-all : goal.returns-then-bytes-all
 returns-then-bytes-all c =
     writes_short (held (goal.at.returns-then-bytes-all c).Start) c.args.bytes.now _ _ _ _ (formula (goal.at.returns-then-bytes-all c).In-Formula).0 (formula (goal.at.returns-then-bytes-all c).In-Formula).1 c.if-bytes-all.true
-
-pub put_question-requires : goal.put_question-requires
-put_question-requires c =
-    let k = (formula (goal.at.put_question-requires c).In-Formula).0 in
-    let f = c.requires in
-    record {
-      full = record { codes = f.codes; coefficients = f.coefficients; constants = f.constants };
-      variables = k.variables;
-      few_nodes = k.few_nodes;
-      few_atoms = omega (arith, k.few_atoms, k.atoms_is);
-      short = omega (arith, k.short, k.len_is);
-      room = omega (arith, k.len_is, c.if-bytes-all.false);
-    }
 
 pub returns-in-Refused : goal.returns-in-Refused
 returns-in-Refused c =

@@ -11,12 +11,8 @@ use mir.Val.{to_z, of_z}
 use mir.ValLaws.{to_z-of_z}
 use Rattle.scope.specs.Sizes.{most_variables}
 use Rattle.fields.specs.Fields.{bare_question}
-use Rattle.fields.proofs.Stores.{put_start, put_again, put_last, atom_bytes}
+use Rattle.fields.proofs.Stores.{put_again, put_last, atom_bytes}
 use Rattle.fields.proofs.held.put_atom.Goals as goal
-
-pub loop-j-init : goal.loop-j-init
-loop-j-init c =
-    put_start c.args.coefficients.now (get_or c.args.constants.now c.args.atom (pos 0)) (most_variables * c.args.atom) c.args.n c.args.at c.args.bytes.now
 
 pub loop-j-preserved : goal.loop-j-preserved
 loop-j-preserved c =

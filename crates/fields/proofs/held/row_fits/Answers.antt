@@ -8,7 +8,7 @@ use lib.ListN.{length, get_or}
 use mir.Syntax.{w32}
 use mir.ValLaws.{to_z-of_z}
 use Rattle.scope.specs.Sizes.{coefficient_fits}
-use Rattle.fields.proofs.Rows.{row_start, row_again, row_not, row_whole}
+use Rattle.fields.proofs.Rows.{row_again, row_not, row_whole}
 use Rattle.fields.proofs.held.row_fits.Goals as goal
 use Rattle.fields.proofs.held.row_fits.Goals.{After-coefficient_fits, Start}
 
@@ -19,9 +19,6 @@ fits : (c : goal.After-coefficient_fits) (t : Bool) → c.coefficient_fits.resul
 fits c t e =
     let z = get_or c.args.coefficients.now (c.args.cell + c.loop-i.i) (pos 0) in
     simp (to_z-of_z w32 z (record { sfits = search rules })) at (sym c.coefficient_fits.ensures) ∙ e
-
-pub loop-i-init : goal.loop-i-init
-loop-i-init c = row_start coefficient_fits c.args.coefficients.now c.args.cell c.args.n
 
 pub returns-then-not-coefficient_fits : goal.returns-then-not-coefficient_fits
 returns-then-not-coefficient_fits c =

@@ -7,7 +7,7 @@ use mir.Val.{to_z, of_z}
 use mir.ValLaws.{to_z-of_z}
 use Rattle.scope.specs.Sizes.{coefficient_fits}
 use Rattle.scope.specs.Wire.{number_at}
-use Rattle.fields.proofs.Bodies.{taken_start, taken_again, taken_not, taken_whole}
+use Rattle.fields.proofs.Bodies.{taken_again, taken_not, taken_whole}
 use Rattle.fields.proofs.taking.take_row.Goals as goal
 use Rattle.fields.proofs.taking.take_row.Goals.{After-number_at-number}
 
@@ -16,9 +16,6 @@ number c = to_z-of_z w32 _ (record { sfits = c.number_at-number.type_inv }) ∙ 
 
 fits : (c : goal.After-number_at-number) (v t : Bool) → v ≡ coefficient_fits (to_z w32 (of_z w32 c.number_at-number.result)) → v ≡ t → coefficient_fits (number_at c.args.bytes.now (c.args.start + 4 * c.loop-i.i)) ≡ t
 fits c v t r e = ap coefficient_fits (sym (number c)) ∙ sym r ∙ e
-
-pub loop-i-init : goal.loop-i-init
-loop-i-init c = taken_start c.args.bytes.now c.args.start c.args.n c.args.cell c.args.coefficients.now
 
 pub returns-then-not-coefficient_fits : goal.returns-then-not-coefficient_fits
 returns-then-not-coefficient_fits c =

@@ -38,12 +38,6 @@ returns-then-len-size c =
     let h = header (goal.at.returns-then-len-size c).In-Header in
     sym (ap frame_or (frame_length c.args.bytes.now c.args.at (due c.args.bytes.now c.args.at c.args.due) c.args.size [] h.there (is_due (goal.at.returns-then-len-size c).In-Header c.if-kind-due.false) (λ e. c.if-len-size.true (h.len_is ∙ e))))
 
-pub overflow_sub-bytes : goal.overflow_sub-bytes
-overflow_sub-bytes c = omega (arith, header (goal.at.overflow_sub-bytes c).In-Header)
-
-pub overflow_sub-bytes-2 : goal.overflow_sub-bytes-2
-overflow_sub-bytes-2 c = omega (arith, header (goal.at.overflow_sub-bytes-2 c).In-Header)
-
 pub returns-then-bytes-at : goal.returns-then-bytes-at
 returns-then-bytes-at c =
     let h = header (goal.at.returns-then-bytes-at c).In-Header in

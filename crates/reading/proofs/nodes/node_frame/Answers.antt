@@ -50,16 +50,6 @@ returns-then-len-body_length c =
     c.refused-then-len-body_length.ensures ∙ sym (ap (answer c.args.bytes.now c.args.at) (frame_length c.args.bytes.now c.args.at (not (is_unused (node_here c.args.bytes.now c.args.at))) (body_length c.args.n (node_here c.args.bytes.now c.args.at)) [] h.there (used c.args.bytes.now c.args.at _ _ _ h c.code_of_kind-code.ensures c.if-code-eq0.false)
     (λ e. c.if-len-body_length.true (h.len_is ∙ e ∙ sym (due c.args.bytes.now c.args.at _ _ _ h c.code_of_kind-code.ensures c.args.n _ c.body_length.ensures)))))
 
-pub overflow_sub-bytes : goal.overflow_sub-bytes
-overflow_sub-bytes c =
-    let h = header_found _ _ _ _ (sym c.header_at.ensures ∙ c.in-Header.is) in
-    omega (arith, h.there)
-
-pub overflow_sub-bytes-2 : goal.overflow_sub-bytes-2
-overflow_sub-bytes-2 c =
-    let h = header_found _ _ _ _ (sym c.header_at.ensures ∙ c.in-Header.is) in
-    omega (arith, h.there)
-
 pub returns-then-bytes-at : goal.returns-then-bytes-at
 returns-then-bytes-at c =
     let h = header_found _ _ _ _ (sym c.header_at.ensures ∙ c.in-Header.is) in

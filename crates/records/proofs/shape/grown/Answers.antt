@@ -1,6 +1,5 @@
 -- `records::shape::grown` meets its contract, in its three cases.
 use native.Mathlib.Omega.{arith}
-use lib.ListN.{length-set}
 use Rattle.records.proofs.Shapes.{grown_atom, grown_one, grown_two}
 use Rattle.records.proofs.shape.grown.Goals as goal
 
@@ -9,9 +8,6 @@ returns-then-code-le2 c = grown_atom _ _ c.requires c.if-code-le2.true
 
 pub returns-then-code-eq3 : goal.returns-then-code-eq3
 returns-then-code-eq3 c = grown_one _ _ c.requires c.if-code-eq3.true
-
-pub bounds-due-below : goal.bounds-due-below
-bounds-due-below c = rw length-set (omega (arith, c.requires.sound.full))
 
 pub returns : goal.returns
 returns c = grown_two _ _ c.requires (omega arith)

@@ -1,5 +1,4 @@
 -- `writing::checks::checked` meets its contract: n, the formula, and then what is left over.
-use native.Mathlib.Omega.{arith}
 use mathlib.Core.Path.{◌≡◌, sym, ◌∙◌}
 use mathlib.Core.Bool.{Bool, true, false}
 use Rattle.scope.specs.declared.Question.{Question}
@@ -9,7 +8,6 @@ use Rattle.records.specs.Parts.{held_question}
 use Rattle.writing.specs.Writes.{FormulaSays}
 use Rattle.writing.specs.declared.checks.FormulaAnswer.{FormulaAnswer}
 use lib.Dec.{T}
-use Rattle.records.proofs.Bounds.{few_variables}
 use Rattle.records.proofs.Checks.{true_T}
 use Rattle.writing.proofs.Checking.{clear_alone, n_beyond, formula_refused, code_over, number_over, nothing_over}
 use Rattle.writing.proofs.checks.checked.Goals as goal
@@ -34,26 +32,13 @@ clear c t e = sym (clear_alone (held_question c.args.n c.args.codes.now c.args.c
 pub returns-then-not-variables_fit : goal.returns-then-not-variables_fit
 returns-then-not-variables_fit c = n_beyond (held (goal.at.returns-then-not-variables_fit c).Start) (sym c.variables_fit.ensures ∙ c.if-not-variables_fit.true)
 
-pub formula_of-formula-requires : goal.formula_of-formula-requires
-formula_of-formula-requires c =
-    let f = c.requires in
-    (rw c.count_of-count.ensures.0 (few_variables _ (fit (goal.at.formula_of-formula-requires c).Else-not-variables_fit)), record { codes = f.codes; coefficients = f.coefficients; constants = f.constants })
-
 pub returns-in_default : goal.returns-in_default
 returns-in_default c =
     rw c.in_default.is (formula_refused (held (goal.at.returns-in_default c).Start) (fit (goal.at.returns-in_default c).Else-not-variables_fit) _ (rw c.in_default.is at (said (goal.at.returns-in_default c).After-formula_of-formula)))
 
-pub code_left-left-requires : goal.code_left-left-requires
-code_left-left-requires c = (omega (arith, (formula c).0.few_nodes), c.requires.codes)
-
 pub returns-then-left-lt-NODES : goal.returns-then-left-lt-NODES
 returns-then-left-lt-NODES c =
     code_over (held (goal.at.returns-then-left-lt-NODES c).Start) (fit (goal.at.returns-then-left-lt-NODES c).Else-not-variables_fit) _ _ c.code_left-left.result (formula (goal.at.returns-then-left-lt-NODES c).In-Formula).1 c.code_left-left.ensures c.if-left-lt-NODES.true
-
-pub numbers_clear-requires : goal.numbers_clear-requires
-numbers_clear-requires c =
-    let k = (formula (goal.at.numbers_clear-requires c).In-Formula).0 in
-    (rw c.count_of-count.ensures.0 k.variables, (k.few_atoms, (c.requires.coefficients, c.requires.constants)))
 
 pub returns-then-numbers_clear : goal.returns-then-numbers_clear
 returns-then-numbers_clear c =

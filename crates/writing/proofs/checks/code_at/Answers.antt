@@ -3,11 +3,10 @@ use mathlib.Core.Path.{◌≡◌, sym, ap, ◌∙◌}
 use mathlib.Core.Bool.{Bool, true, false}
 use Prim.Native.Nat.{ℕ}
 use Rattle.scope.specs.declared.Question.{Question}
-use Rattle.scope.specs.Question.{Node, is_atom}
+use Rattle.scope.specs.Question.{Node}
 use Rattle.records.specs.Parts.{held_question}
 use Rattle.scope.specs.Writing.{Walk, node_held}
 use Rattle.records.specs.Formula.{size_fits}
-use Rattle.records.proofs.Checks.{sized_few}
 use Rattle.writing.specs.Writes.{walk_at}
 use Rattle.writing.proofs.Checking.{numbers_alone, code_full, code_kind, code_large, code_plain, code_atom}
 use Rattle.writing.proofs.checks.code_at.Goals as goal
@@ -46,15 +45,6 @@ returns-then-not-atom c =
     code_plain (held (goal.at.returns-then-not-atom c).Start) c.args.depth (walk (goal.at.returns-then-not-atom c).Start)
     c.if-nodes-ge-NODES.false (sym c.is_node.ensures ∙ c.if-not-is_node.false) (size_is _ _ _ true _ _ c.is_atom-atom.ensures c.sized.ensures c.if-not-sized.false)
     (sym c.is_atom-atom.ensures ∙ c.if-not-atom.true)
-
-pub atom_at-requires : goal.atom_at-requires
-atom_at-requires c =
-    record {
-      variables = c.requires.0;
-      few = sized_few (is_atom (here (goal.at.atom_at-requires c).Start)) c.args.atoms c.args.depth (size_is _ _ _ true _ _ c.is_atom-atom.ensures c.sized.ensures c.if-not-sized.false) (sym c.is_atom-atom.ensures ∙ c.if-not-atom.false);
-      coefficients_full = c.requires.1.coefficients;
-      constants_full = c.requires.1.constants;
-    }
 
 pub returns : goal.returns
 returns c =

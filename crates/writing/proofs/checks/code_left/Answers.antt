@@ -1,10 +1,6 @@
 -- `writing::checks::code_left` meets its contract: every code before i is zero.
-use mathlib.Core.Path.{refl}
 use Rattle.writing.proofs.Sweeps.{left_again, left_found, left_none}
 use Rattle.writing.proofs.checks.code_left.Goals as goal
-
-pub loop-i-init : goal.loop-i-init
-loop-i-init c = (c.requires.0, λ later. refl)
 
 pub returns-then-codes-i-ne0 : goal.returns-then-codes-i-ne0
 returns-then-codes-i-ne0 c = left_found _ _ _ c.loop-i-test.true c.if-codes-i-ne0.true c.loop-i.invariant

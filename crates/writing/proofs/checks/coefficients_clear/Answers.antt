@@ -1,10 +1,7 @@
 -- `writing::checks::coefficients_clear` meets its contract: the rows from an atom on say whether all is clear.
 use mathlib.Core.Path.{sym, ◌∙◌}
-use Rattle.writing.proofs.Sweeps.{rows_start, rows_again, rows_not, rows_whole}
+use Rattle.writing.proofs.Sweeps.{rows_again, rows_not, rows_whole}
 use Rattle.writing.proofs.checks.coefficients_clear.Goals as goal
-
-pub loop-atom-init : goal.loop-atom-init
-loop-atom-init c = rows_start c.args.n c.args.atoms c.args.coefficients.now
 
 pub returns-then-not-row_clear : goal.returns-then-not-row_clear
 returns-then-not-row_clear c =

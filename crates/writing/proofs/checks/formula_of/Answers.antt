@@ -5,12 +5,10 @@ use Prim.Native.Nat.{ℕ}
 use Rattle.scope.specs.declared.Question.{Question}
 use Rattle.records.specs.declared.nodes.NodeAnswer.{NodeAnswer}
 use Rattle.records.specs.Parts.{held_question}
-use Rattle.scope.specs.Question.{node_of}
 use Rattle.scope.specs.Writing.{Walk}
 use Rattle.writing.specs.Writes.{code_answer}
 use Rattle.records.specs.Formula.{Known, known_by, due_depth}
 use Rattle.records.proofs.Due.{grown_nodes}
-use Rattle.writing.proofs.Lengths.{body_small}
 use Rattle.writing.proofs.Checking.{CodeTaken, code_taken}
 use Rattle.writing.proofs.Walks.{walk_by, walking_start, walking_refused, walking_again, walking_end}
 use Rattle.writing.proofs.checks.formula_of.Goals as goal
@@ -47,10 +45,6 @@ pub grown-shape-requires : goal.grown-shape-requires
 grown-shape-requires c =
     let k = node (goal.at.grown-shape-requires c).In-Node in
     record { sound = c.loop-shape.invariant.sound; due = c.loop-shape-test.true; room = k.room; shallow = k.shallow; node = k.known.used; known = k.known.small }
-
-pub overflow_add-len-in-Node : goal.overflow_add-len-in-Node
-overflow_add-len-in-Node c =
-    omega (arith, c.loop-shape.invariant.short, c.loop-shape.invariant.few, c.loop-shape.invariant.sound.bounded, c.body_length.ensures, body_small c.args.n (node_of c.in-Node.code) c.requires.0)
 
 pub loop-shape-smaller : goal.loop-shape-smaller
 loop-shape-smaller c = omega (arith, (node (goal.at.loop-shape-smaller c).In-Node).room, grown_nodes _ _ _ c.grown-shape.ensures)

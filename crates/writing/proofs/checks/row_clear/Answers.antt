@@ -6,12 +6,9 @@ use lib.IntN.{pos}
 use lib.ListN.{get_or}
 use borrow.Author.Tests.{eq-eqb, ne_eqb}
 use Rattle.writing.specs.Writes.{is_zero}
-use Rattle.fields.proofs.Rows.{row_start, row_again, row_not, row_whole}
+use Rattle.fields.proofs.Rows.{row_again, row_not, row_whole}
 use Rattle.writing.proofs.Sweeps.{zero_test}
 use Rattle.writing.proofs.checks.row_clear.Goals as goal
-
-pub loop-i-init : goal.loop-i-init
-loop-i-init c = row_start is_zero c.args.numbers.now c.args.cell c.args.n
 
 pub returns-then-numbers-cell-ne0 : goal.returns-then-numbers-cell-ne0
 returns-then-numbers-cell-ne0 c =

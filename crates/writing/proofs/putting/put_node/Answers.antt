@@ -1,13 +1,9 @@
 -- `writing::putting::put_node` meets its contract, for an atom and for any other node.
-use native.Mathlib.Omega.{arith}
 use mathlib.Core.Path.{◌≡◌, sym, ◌∙◌}
 use mathlib.Core.Bool.{true, false}
-use Prim.Native.Nat.{◌*◌, ◌+◌}
 use Rattle.scope.specs.declared.Question.{Question}
 use Rattle.scope.specs.Question.{node_of, is_atom}
-use Rattle.scope.specs.Wire.{body_length}
 use Rattle.fields.specs.Fields.{bare_question}
-use Rattle.writing.proofs.Lengths.{body_small}
 use Rattle.writing.proofs.Placing.{put_plain, put_with_body, body_is}
 use Rattle.writing.proofs.putting.put_node.Goals as goal
 use Rattle.writing.proofs.putting.put_node.Goals.{Start, Then-is_atom}
@@ -18,18 +14,6 @@ held s = bare_question s.args.n s.args.coefficients.now s.args.constants.now
 
 atom : (c : goal.Then-is_atom) → is_atom (node_of c.args.code) ≡ true
 atom c = sym c.is_atom.ensures ∙ c.if-is_atom.true
-
-pub narrow-len-requires : goal.narrow-len-requires
-narrow-len-requires c =
-    omega (arith, c.body_length.ensures, body_small c.args.n (node_of c.args.code) c.requires.variables)
-
-pub put_atom-requires : goal.put_atom-requires
-put_atom-requires c =
-    let p = c.requires in
-    let m : body_length c.args.n (node_of c.args.code) ≡ 4 * (c.args.n + 1) = rw (atom (goal.at.put_atom-requires c).Then-is_atom) in (
-      record { variables = p.variables; few = p.few (atom (goal.at.put_atom-requires c).Then-is_atom); coefficients_full = p.coefficients_full; constants_full = p.constants_full },
-      omega (arith, p.room, c.put_header.auto.bytes),
-    )
 
 pub returns-then-is_atom : goal.returns-then-is_atom
 returns-then-is_atom c =

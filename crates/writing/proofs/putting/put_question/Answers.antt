@@ -77,11 +77,6 @@ loop-i-preserved c =
     (c.put_node.ensures ∙ ap (sets c.loop-i.bytes c.loop-i.at) (bytes_alone q _ (code_node q c.loop-i.i) c.loop-i.atoms (count (goal.at.loop-i-preserved c).In-loop-i)))
     (ap (λ (k : ℕ). length (node_bytes q (code_node q c.loop-i.i) k)) c.loop-i.invariant.atoms_is ∙ long (goal.at.loop-i-preserved c).In-loop-i ∙ ap (λ (k : ℕ). 4 + k) (sym (c.body_length.ensures ∙ counted_length (goal.at.loop-i-preserved c).In-loop-i))) c.counted-atoms.ensures
 
-pub put_header-requires : goal.put_header-requires
-put_header-requires c =
-    let e : c.loop-i.i ≡ c.args.nodes = omega (arith, c.loop-i.invariant.within, c.loop-i-test.false) in
-    omega (arith, c.requires.room, same (goal.at.put_header-requires c).At-loop-i, c.loop-i.invariant.at_is, ap (λ (i : ℕ). length (bytes_to (held_question c.args.n c.args.codes.now c.args.coefficients.now c.args.constants.now) i)) e)
-
 pub returns : goal.returns
 returns c =
     nodes_whole c.loop-i.invariant c.loop-i-test.false
