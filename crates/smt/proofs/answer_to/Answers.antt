@@ -2,7 +2,6 @@
 use Prim.Native.Nat.{◌≤◌, ◌<◌}
 use lib.ListN.{length}
 use native.Mathlib.Omega.{arith}
-use borrow.Author.Rules.{rules}
 use Rattle.smt.specs.Solved.{most_text}
 use Rattle.smt.proofs.Laws.{solved_put, solved_long, given_refused, given_bounds, given_solved}
 use Rattle.smt.proofs.answer_to.Goals as goal

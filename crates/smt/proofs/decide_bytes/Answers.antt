@@ -1,5 +1,4 @@
 -- `smt::decide_bytes` meets its contract. Assumes nothing.
-use borrow.Author.Rules.{rules}
 use Rattle.told.specs.Writers.{put_as}
 use Rattle.smt.specs.Solved.{said_in}
 use Rattle.smt.proofs.Laws.{said_as}

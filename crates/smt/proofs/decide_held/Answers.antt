@@ -1,10 +1,8 @@
 -- `smt::decide_held` meets its contract: what is decided is the question's bytes. Assumes nothing.
-use mathlib.Core.Path.{sym, ap}
+use mathlib.Core.Path.{ap}
 use native.Mathlib.Omega.{arith}
 use Prim.Native.Nat.{ℕ}
 use lib.ListN.{length-replicate}
-use lib.Seq.{length-take-le}
-use borrow.Author.Rules.{rules}
 use Rattle.told.specs.Writers.{put_as}
 use Rattle.smt.specs.Solved.{said_in}
 use Rattle.smt.proofs.Laws.{held_bytes}

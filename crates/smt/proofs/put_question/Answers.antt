@@ -1,6 +1,5 @@
 -- `smt::put_question` meets its contract. Assumes nothing.
 use mathlib.Core.Path.{sym, ◌∙◌}
-use borrow.Author.Rules.{rules}
 use Rattle.smt.proofs.Laws.{question_put, none_put}
 use Rattle.smt.proofs.put_question.Goals as goal
 
