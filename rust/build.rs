@@ -16,7 +16,7 @@ fn main() {
     let Ok(bytes) = std::fs::read(&archive) else {
         panic!("there is no {}: {hint}", archive.display());
     };
-    // `rt staticlib` writes an archive for x86-64 to the same place on any machine.
+    // An archive for aarch64 is written on another machine, beside the one for that machine.
     let target = std::env::var("CARGO_CFG_TARGET_ARCH").expect("cargo names it");
     if let Some(machine) = machine_of(&bytes).filter(|machine| *machine != target) {
         panic!(
