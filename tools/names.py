@@ -3,13 +3,14 @@
 
 It prints nothing and exits 0 where all is well; else it prints a line for each fault and exits 1.
 
-1. A definition is defined once in all crates. It is a public name of specs/ or proofs/ that has no hyphen and is no field or constructor.
-2. A law, a public name that has a hyphen, is defined once in its crate. What a Proof.antt exports as `..-spec` is no law.
+1. A definition is defined once in all crates. It is a public name of specs/ or proofs/ that is declared as an `abbrev`, `unfoldable`, a record, data or
+   a ruleset.
+2. A law, any other public name, is defined once in its crate. What a function's Answers.antt or Invariants.antt declares is its own, and no law.
 3. The head of each group of theory (specs/GROUP.antt) has, above the `pub mod` line of a file, a line `--   name   meaning` for each name of
    that file that is used outside the group, and for no other name.
-4. A name that a line `use M.{..}` brings in is used in the file.
-5. A name in backticks in docs/ and README.md is in crates/, include/, rust/ or bench/. A name is one word with a capital or a hyphen. A path
-   that begins with crates/ is there, with or without `.antt` or `.edit`.
+4. A name that a line `use M.{..}` brings in is used in the file. (The records of a function's Goals may be there for their fields.)
+5. A name in backticks in docs/ and README.md is in crates/, include/, rust/ or bench/. A name is one word with a capital, an underscore or a hyphen. A
+   path that begins with crates/ is there, with or without `.antt` or `.edit`. (docs/PORT.md tells of names that were.)
 6. Each `old:` text of a must-fail edit is in its file exactly once, where the pairs before it are applied.
 """
 import re
@@ -19,9 +20,9 @@ from pathlib import Path
 
 THEORY = Path("crates/theory/specs")
 USE = re.compile(r"^[ \t]*(?:ghost )?(?:pub )?use ([^\s{;]+?)(?:\.\{([^}]*)\}| as ([^\s;]+))?;?[ \t]*$", re.M)
-MODULE = re.compile(r"Rattle·(\w+?)(?:·(?:specs|proofs))?\.(?:specs|proofs)\.(.+)")
+MODULE = re.compile(r"Rattle\.(\w+)\.(?:specs|proofs)\.(.+)")
 COMMENT = {".antt": re.compile(r"(^|(?<=\s))--(\s.*|-*)$", re.M), ".rt": re.compile(r"//.*$", re.M)}
-BETWEEN = r"\s(){};,.⌜⌝"  # what no name has in it
+BETWEEN = r"\s(){};,."  # what no name has in it
 
 faults = []
 
@@ -31,11 +32,7 @@ def fault(place, text):
 
 
 def is_operator(name):
-    return name.startswith("_") or name.endswith("_")
-
-
-def is_law(name):
-    return "-" in name and not is_operator(name)
+    return "◌" in name
 
 
 class Source:
@@ -53,12 +50,12 @@ class Source:
             for name in filter(None, map(str.strip, names.split(","))):
                 there, _, here = name.partition(" as ")
                 self.names.append((module, there.strip(), (here or there).strip()))
-        # a word behind a dot that stands apart, as in `q .n`, is a field
-        self.words = set(re.split(f"[{BETWEEN}]+", re.sub(rf"(?<=[\s)])\.[^{BETWEEN}]+", " ", self.code)))
+        # a word behind a dot, as in `q.n`, is a field
+        self.words = set(re.split(f"[{BETWEEN}]+", re.sub(rf"\.[^{BETWEEN}]+", " ", self.code)))
 
     def has(self, name):
         """An operator is used by its parts or by its whole name."""
-        return name in self.words or is_operator(name) and all(p in self.words for p in name.split("_") if p)
+        return name in self.words or is_operator(name) and all(p in self.words for p in name.split("◌") if p)
 
     def uses(self):
         """(crate, module, name) of each name of a crate that the file brings in, or that it has as `alias.name`."""
@@ -71,7 +68,7 @@ class Source:
                 yield known[1], known[2], name
 
     def publics(self):
-        """(name, kind, line) of each public name: a `definition`, a `field` or a `constructor`."""
+        """(name, kind, line) of each public name: a `definition`, a `law`, a `field` or a `constructor`."""
         block = None  # the record or data around a line: what it is, its indent, the indent of what is in it
         for number, line in enumerate(self.path.read_text().split("\n"), 1):
             words, indent = line.split(), len(line) - len(line.lstrip())
@@ -85,22 +82,21 @@ class Source:
                     yield words[1], "field", number
                 continue
             block = None
-            while words[0] in ("unfoldable", "abbrev", "opaque"):
-                words.pop(0)
+            kind = "definition" if words[0] in ("unfoldable", "abbrev") and words.pop(0) else "law"
             public = words[0] == "pub" and words.pop(0)
             what = words.pop(0) if words[0] in ("record", "data", "ruleset", "mod", "use") else ""
             if what in ("record", "data"):
                 block = [what if public else "", indent, 0]
             if public and what not in ("mod", "use"):
-                yield re.split(r"[(){}:]", words[0])[0], "definition", number
+                yield re.split(r"[(){}:]", words[0])[0], "definition" if what else kind, number
 
 
 def defined_once(sources):
     places = defaultdict(list)
-    for s in sources:
+    for s in (s for s in sources if s.path.name not in ("Answers.antt", "Invariants.antt")):
         for name, kind, line in s.publics():
-            if kind == "definition" and not (s.path.name == "Proof.antt" and name.endswith("-spec")):
-                places[s.crate if is_law(name) else "", name].append(f"{s.path}:{line}")
+            if kind in ("definition", "law"):
+                places[s.crate if kind == "law" else "", name].append(f"{s.path}:{line}")
     for (crate, name), at in sorted(places.items()):
         if len(at) > 1:
             fault(at[0], f"the {'law' if crate else 'definition'} {name} is defined again at {', '.join(at[1:])}")
@@ -139,7 +135,7 @@ def heads_right(sources):
 def imports_used(sources):
     for s in sources:
         for module, _, here in s.names:
-            if not s.has(here):
+            if not s.has(here) and not module.endswith(".Goals"):
                 fault(s.path, f"{here} of {module} is not used")
 
 
@@ -150,11 +146,11 @@ def documents_right(sources):
     for path in (p for folder in ("include", "rust", "bench") for p in Path(folder).glob("**/*")):
         if path.suffix in (".h", ".rs", ".toml") and "target" not in path.parts:
             known.update(re.findall(r"[\w-]+", path.read_text()))
-    for page in [*sorted(Path("docs").glob("**/*.md")), Path("README.md")]:
+    for page in [*sorted(p for p in Path("docs").glob("**/*.md") if p.name != "PORT.md"), Path("README.md")]:
         text = re.sub(r"^```.*?^```", lambda block: "\n" * block[0].count("\n"), page.read_text(), flags=re.M | re.S)
         for number, line in enumerate(text.split("\n"), 1):
             for name in re.findall(r"`([^`\s]+)`", line):
-                if re.fullmatch(r"[^\W\d]\w*(-\w+)*", name) and re.search(r"[A-Z-]", name) and name not in known:
+                if re.fullmatch(r"[^\W\d]\w*(-\w+)*", name) and re.search(r"[A-Z_-]", name) and name not in known:
                     fault(f"{page}:{number}", f"`{name}` is no name of the project")
             for path in re.findall(r"crates/[\w/.-]*\w", line):
                 if "NAME" not in path and not any(Path(path + end).exists() for end in ("", ".antt", ".edit")):
@@ -179,8 +175,8 @@ def edits_right():
                 old = ""
 
 
-antt = [Source(p) for p in sorted(Path("crates").glob("**/*.antt"))]
-both = antt + [Source(p) for p in sorted(Path("crates").glob("**/*.rt"))]
+antt = [Source(p) for part in ("specs", "proofs") for p in sorted(Path("crates").glob(f"*/{part}/**/*.antt"))]
+both = antt + [Source(p) for p in sorted(Path("crates").glob("*/src/**/*.rt"))]
 defined_once(antt)
 heads_right(both)
 imports_used(both)

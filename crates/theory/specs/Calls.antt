@@ -4,98 +4,98 @@
 
 -- what found, never and no room say of a question where r rows are lent
 --   StatesAre         the reachable states are n: at most n, and at most no smaller number
---   states-unique     the reachable states are of one number
---   rowsOf            the rows of a question's machine after r expansions
---   row_word           the word of row t of these
---   verdict_of         the verdict over r rows of a question's machine
---   counted_rows       the rows of every state that this verdict counts
+--   states_unique     the reachable states are of one number
+--   rows_of           the rows of a question's machine after r expansions
+--   row_word          the word of row t of these
+--   verdict_of        the verdict over r rows of a question's machine
+--   counted_rows      the rows of every state that this verdict counts
 --   NoneSatisfies     `says` is false of any n naturals, however large
 --   FirstSatisfying   w is a word over the letters of n variables, `says` is true of what it spells, and w is the first such word
 pub mod Deciding
 -- the call of deciding, on bytes that are accepted as the question q or refused
 --   RowFound                   `states` is one more than a row below r whose word, of k letters, is the first that satisfies
---   letters-fewer              that word has fewer letters than there are states
+--   letters_fewer              that word has fewer letters than there are states
 --   NeverAt                    the reachable states are `states`, which is at most r, and no naturals satisfy
 --   NoRoomAt                   `states` is r, the reachable states are more, and the words of the first r rows spell none that satisfy
---   decide-refused-unchanged   bytes that reading refuses are refused so, and no lent cell changes
---   says-found                 found is answered exactly if `RowFound` holds and the word buffer has room for k letters
---   says-short                 short is answered exactly if `RowFound` holds and the word buffer has fewer than k letters
---   decide-says-not-refused    of accepted bytes the answer is not `Refused`
---   bound-is-room              no room is not answered where the rows lent are at least the bound
---   held-found-hands-over      after found the front of the word buffer is the first satisfying word, and the rest is as it was
---   word-kept                  after any answer but found the word buffer is as it was
+--   decide_refused_unchanged   bytes that reading refuses are refused so, and no lent cell changes
+--   says_found                 found is answered exactly if `RowFound` holds and the word buffer has room for k letters
+--   says_short                 short is answered exactly if `RowFound` holds and the word buffer has fewer than k letters
+--   decide_says_not_refused    of accepted bytes the answer is not `Refused`
+--   bound_is_room              no room is not answered where the rows lent are at least the bound
+--   held_found_hands_over      after found the front of the word buffer is the first satisfying word, and the rest is as it was
+--   word_kept                  after any answer but found the word buffer is as it was
 pub mod Decided
 -- the cells of a table, and what it says of a word
---   tableOf   the cells of the table of a question's rows after r expansions
+--   table_of   the cells of the table of a question's rows after r expansions
 pub mod Building
 -- the call of building, on bytes that are accepted as the question q or refused
---   built_of                   the outcome of building the question q where r rows are lent
---   without-room              where its rows are more than r, that is no room, with r key rows at the front and the table as it was
---   build-refused-unchanged   bytes that reading refuses are refused so, and no lent cell changes
---   build-says-not-refused    of accepted bytes the answer is not `Refused`
---   held-built-exactly        built is answered exactly if the reachable states are at most the rows lent
---   bound-builds              built is answered where the rows lent are at least the bound
---   table-kept                after no room the table is as it was
---   built-hands-over          after built the front of the table is the cells of all the states, and the rest is as it was
+--   built_of                  the outcome of building the question q where r rows are lent
+--   without_room              where its rows are more than r, that is no room, with r key rows at the front and the table as it was
+--   build_refused_unchanged   bytes that reading refuses are refused so, and no lent cell changes
+--   build_says_not_refused    of accepted bytes the answer is not `Refused`
+--   held_built_exactly        built is answered exactly if the reachable states are at most the rows lent
+--   bound_builds              built is answered where the rows lent are at least the bound
+--   table_kept                after no room the table is as it was
+--   built_hands_over          after built the front of the table is the cells of all the states, and the rest is as it was
 pub mod Built
 -- every lent buffer keeps its length, for any bytes
---   path-length           the path cells of rows are 2 for each
---   keys-length           the key cells of the first k rows of a question are one for each atom and row
---   counted-are           the rows that a question's verdict counts are the first k, for some k that is at most r
---   decided-keys-length   deciding keeps the length of the key area
---   decided-path-length   deciding keeps the length of the path area
---   decided-word-length   deciding keeps the length of the word buffer
---   build-room-keys       the rows lent to building are at most those that the key area holds
---   build-room-table      the rows lent to building are at most those that the table holds
---   built-keys-length     building keeps the length of the key area
---   built-table-length    building keeps the length of the table
---   wrote-length          writing keeps the length of the buffer
+--   path_length           the path cells of rows are 2 for each
+--   keys_length           the key cells of the first k rows of a question are one for each atom and row
+--   counted_are           the rows that a question's verdict counts are the first k, for some k that is at most r
+--   decided_keys_length   deciding keeps the length of the key area
+--   decided_path_length   deciding keeps the length of the path area
+--   decided_word_length   deciding keeps the length of the word buffer
+--   build_room_keys       the rows lent to building are at most those that the key area holds
+--   build_room_table      the rows lent to building are at most those that the table holds
+--   built_keys_length     building keeps the length of the key area
+--   built_table_length    building keeps the length of the table
+--   wrote_length          writing keeps the length of the buffer
 pub mod Lengths
 -- the areas after deciding and building, where the bytes are accepted as the question q
---   states_told     the states that an answer of deciding tells; 0 of a refusal
+--   states_told    the states that an answer of deciding tells; 0 of a refusal
 --   Filled         of rows of w cells the first count have the cells that `cell` gives, and every cell beyond is as before
---   key_cell        cell i of key row t: the cell of entry i of the state that the word of row t leads to
---   path_cell       cell i of path row t: the state, then the letter, from which row t was numbered
---   decided-keys   after deciding as many key rows are filled as states are told, each with its state's cells
---   decided-path   after deciding as many path rows are filled as states are told
---   built_told      the states that an answer of building tells; 0 of a refusal
---   built-keys     after building as many key rows are filled as states are told, each with its state's cells
+--   key_cell       cell i of key row t: the cell of entry i of the state that the word of row t leads to
+--   path_cell      cell i of path row t: the state, then the letter, from which row t was numbered
+--   decided_keys   after deciding as many key rows are filled as states are told, each with its state's cells
+--   decided_path   after deciding as many path rows are filled as states are told
+--   built_told     the states that an answer of building tells; 0 of a refusal
+--   built_keys     after building as many key rows are filled as states are told, each with its state's cells
 pub mod Areas
 -- judging, the machine and the table agree
---   truth-yes         `truth_of b` is yes exactly if b is true
+--   truth_yes         `truth_of b` is yes exactly if b is true
 --   Taken             there are n values, each below 2 ^ 40
---   spelled-over      the word of 40 letters of such values is over the letters of n variables
---   word-spells       it spells the values
---   judged-machine    the judge says of them what the machine says of that word
---   judged-accepted   accepted bytes are judged as the question read from them
+--   spelled_over      the word of 40 letters of such values is over the letters of n variables
+--   word_spells       it spells the values
+--   judged_machine    the judge says of them what the machine says of that word
+--   judged_accepted   accepted bytes are judged as the question read from them
 pub mod Agreement
 -- what the calls answer of any bytes, in the words of trees
---   held_in             the held value of the question that bytes are
+--   held_in            the held value of the question that bytes are
 --   Read               bytes are a question's, or reading refuses them
---   a-question         they are a question's
---   refused-by         reading refuses them by ρ
---   not-both           a question's bytes are not refused by reading
---   either-way         any bytes are a question's or are refused
+--   a_question         they are a question's
+--   refused_by_lem     reading refuses them by ρ
+--   not_both           a question's bytes are not refused by reading
+--   either_way         any bytes are a question's or are refused
 --   Guarded            the bytes are a question's, the reachable states are at most the rows lent, and no naturals make its tree true
---   roomFor            the rows lent to deciding a question
---   found-as           of a question's bytes found is answered exactly if `RowFound` holds of its tree and the word has room
---   short-as           of a question's bytes short is answered exactly if `RowFound` holds of its tree and the word has no room
---   never-as           of a question's bytes never is answered exactly if `NeverAt` holds of its tree
---   no-room-as         of a question's bytes no room is answered exactly if `NoRoomAt` holds of its tree
---   found-exactly      found is answered exactly if the bytes are a question's, and as `found_as` says
---   short-exactly      short is answered exactly if the bytes are a question's, and as `short_as` says
---   never-exactly      never is answered exactly if the bytes are a question's, and as `never_as` says
---   no-room-exactly    no room is answered exactly if the bytes are a question's, and as `no_room_as` says
---   never-guarded      never is answered, with some number of states, exactly if `Guarded` holds
+--   room_for           the rows lent to deciding a question
+--   found_as           of a question's bytes found is answered exactly if `RowFound` holds of its tree and the word has room
+--   short_as           of a question's bytes short is answered exactly if `RowFound` holds of its tree and the word has no room
+--   never_as           of a question's bytes never is answered exactly if `NeverAt` holds of its tree
+--   no_room_as         of a question's bytes no room is answered exactly if `NoRoomAt` holds of its tree
+--   found_exactly      found is answered exactly if the bytes are a question's, and as `found_as` says
+--   short_exactly      short is answered exactly if the bytes are a question's, and as `short_as` says
+--   never_exactly      never is answered exactly if the bytes are a question's, and as `never_as` says
+--   no_room_exactly    no room is answered exactly if the bytes are a question's, and as `no_room_as` says
+--   never_guarded      never is answered, with some number of states, exactly if `Guarded` holds
 --   HandsOver          the front k letters of the word buffer are the first word for which the tree is true; the rest is as before
---   found-hands-over   after found with k letters, `HandsOver` holds
---   rows_for            the rows lent to building a question
---   built-as           of a question's bytes built is answered exactly if the reachable states are `states`, at most the rows lent
---   unbuilt-as         of a question's bytes no room is answered exactly if `states` is the rows lent and the reachable states are more
---   built-exactly      built is answered exactly if the bytes are a question's, and as `built_as` says
---   unbuilt-exactly    no room is answered exactly if the bytes are a question's, and as `unbuilt_as` says
---   table-answers      a table built of a question's bytes, run on any word, says whether the tree is true for what the word spells
---   judged-unread      bytes that reading refuses are refused so by the judge
---   judged-as          of a question's bytes the judge says whether the tree is true for the values, where it takes them
---   judged-others      of a question's bytes the judge refuses other values by 9
+--   found_hands_over   after found with k letters, `HandsOver` holds
+--   rows_for           the rows lent to building a question
+--   built_as           of a question's bytes built is answered exactly if the reachable states are `states`, at most the rows lent
+--   unbuilt_as         of a question's bytes no room is answered exactly if `states` is the rows lent and the reachable states are more
+--   built_exactly      built is answered exactly if the bytes are a question's, and as `built_as` says
+--   unbuilt_exactly    no room is answered exactly if the bytes are a question's, and as `unbuilt_as` says
+--   table_answers      a table built of a question's bytes, run on any word, says whether the tree is true for what the word spells
+--   judged_unread      bytes that reading refuses are refused so by the judge
+--   judged_as          of a question's bytes the judge says whether the tree is true for the values, where it takes them
+--   judged_others      of a question's bytes the judge refuses other values by 9
 pub mod Questions

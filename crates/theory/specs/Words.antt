@@ -4,32 +4,32 @@
 
 -- laws of the order of words; `w ▹ a` is w with the letter a at its end
 --   length-▹    a word with a letter more is one longer
---   ≼-trans     the order is transitive
---   ≼-not-≻     where u ≼ v, v does not come before u
---   ≼-antisym   where u ≼ v and v ≼ u, the words are equal
---   ≼-total     of any two words, u ≼ v or v ≺ u
+--   ≼_trans     the order is transitive
+--   ≼_not-≻     where u ≼ v, v does not come before u
+--   ≼_antisym   where u ≼ v and v ≼ u, the words are equal
+--   ≼_total     of any two words, u ≼ v or v ≺ u
 --   []-least    no word comes before the empty one
 --   ≺-▹         a letter more, whichever it is, on each of two words keeps u ≺ v
---   ≺-last      of one word with a letter more, that with the smaller letter comes first
+--   ≺_last      of one word with a letter more, that with the smaller letter comes first
 --   ≼-▹         the same letter more on each of two words keeps u ≼ v
---   ≼-last      of one word with a letter more, where a ≤ b, that with a is at most that with b
+--   ≼_last      of one word with a letter more, where a ≤ b, that with a is at most that with b
 --   over-▹      a word of letters below k, with such a letter more, is one
---   words-by    what holds of the empty word and is kept by every letter below k more holds of every word of such letters
+--   words_by    what holds of the empty word and is kept by every letter below k more holds of every word of such letters
 pub mod Order
 -- what a word spells, letter by letter, and a word for every tuple of values
---   digit-small           a digit of a letter is below 2
---   put_from               values with a letter's digits, from digit j on, put below theirs: each x becomes 2 * x plus its digit
---   put                   the same from digit 0 on: the values whose lowest digits are the letter's, and whose further digits are theirs
---   value-cons            what a letter and then a word spell for variable j is the letter's digit plus twice what the word spells
---   spelled-nil           the empty word spells n zeros
---   spelled-cons          a letter and then a word spell the values that the word spells, with the letter put below
---   length-spelled        a word spells n values
---   spelled-at            value j of those that a word spells is its value for variable j
+--   digit_small             a digit of a letter is below 2
+--   put_from                values with a letter's digits, from digit j on, put below theirs: each x becomes 2 * x plus its digit
+--   put                     the same from digit 0 on: the values whose lowest digits are the letter's, and whose further digits are theirs
+--   value_cons              what a letter and then a word spell for variable j is the letter's digit plus twice what the word spells
+--   spelled_nil             the empty word spells n zeros
+--   spelled_cons            a letter and then a word spell the values that the word spells, with the letter put below
+--   length_spelled          a word spells n values
+--   spelled_at              value j of those that a word spells is its value for variable j
 --   word_of_values          the word of k letters that has the k lowest digits of the values
 --   word_of_values_over     it is a word over the letters of as many variables as there are values
 --   word_of_values_spells   it spells the values, where each is below 2 ^ k
---   SpelledBy             a word over the letters of n variables that spells the values xs
---   every-tuple           every n values are spelled by some word over the letters of n variables
---   letters-fit           the test `letters_fit n` passes exactly of the words over the letters of n variables
---   values-at-most        the test that each value is at most k passes exactly where each is below k + 1
+--   SpelledBy               a word over the letters of n variables that spells the values xs
+--   every_tuple             every n values are spelled by some word over the letters of n variables
+--   letters_fit_lem         the test `letters_fit n` passes exactly of the words over the letters of n variables
+--   values_at_most          the test that each value is at most k passes exactly where each is below k + 1
 pub mod Spelling
