@@ -24,14 +24,14 @@ WANTED = {
     "spell value": 6, "spell refused": 4,
     # with every lent cell told
     "record record": 4, "record refused": 2,
-    "decideCells found": 4, "decideCells never": 2, "decideCells no-room": 3, "decideCells refused": 1,
-    "buildCells built": 3, "buildCells no-room": 3, "buildCells refused": 1,
+    "decide_cells found": 4, "decide_cells never": 2, "decide_cells no-room": 3, "decide_cells refused": 1,
+    "build_cells built": 3, "build_cells no-room": 3, "build_cells refused": 1,
 }
 IMPORTS_WANTED = {"held": 12, "refused": 6}
 # where the outcome stands in a line of each call
-OUTCOME = {"read": 2, "write": 6, "record": 3, "judge": 3, "decide": 4, "build": 3, "spell": 4, "decideCells": 5, "buildCells": 4}
+OUTCOME = {"read": 2, "write": 6, "record": 3, "judge": 3, "decide": 4, "build": 3, "spell": 4, "decide_cells": 5, "build_cells": 4}
 # the calls whose lines are put apart: a line of Outcomes has no room for them
-APART = ("record", "decideCells", "buildCells")
+APART = ("record", "decide_cells", "build_cells")
 
 
 def joined(items):
@@ -87,44 +87,44 @@ def line(words):
     elif call == "write":
         room = words[5]
         gives = f"writes {question(words[1:5])} {room}"
-        should = f"writtenIn {room} {octets(rest[0])}" if said == "written" else f"unwritten {room} {refusal(rest)}"
+        should = f"written_in {room} {octets(rest[0])}" if said == "written" else f"unwritten {room} {refusal(rest)}"
     elif call == "judge":
         gives = f"judges {octets(words[1])} {joined(naturals(words[2]))}"
         should = {"yes": "truth TruthAnswer.Yes", "no": "truth TruthAnswer.No"}.get(said) or f"truth (TruthAnswer.Refused {refusal(rest)})"
     elif call == "decide":
         room = words[3]
-        call = "decidesShort" if said == "refused" else "decides"
+        call = "decides_short" if said == "refused" else "decides"
         gives = f"{call} {octets(words[1])} {words[2]} {room}"
         should = {
-            "found": lambda: f"foundIn {room} {rest[0]} {joined(naturals(rest[1]))}",
-            "never": lambda: f"neverIn {room} {rest[0]}",
-            "no-room": lambda: f"noRoomIn {room} {rest[0]}",
+            "found": lambda: f"found_in {room} {rest[0]} {joined(naturals(rest[1]))}",
+            "never": lambda: f"never_in {room} {rest[0]}",
+            "no-room": lambda: f"no_room_in {room} {rest[0]}",
             "refused": lambda: f"count {rest[1]}",
         }[said]()
     elif call == "build":
         cells = int(words[2]) * (1 + 2 ** bytes.fromhex(words[1])[4])
-        gives = f"buildsCells {octets(words[1])} {words[2]}"
-        should = f"cellsIn {cells} {rest[0]} {joined(naturals(rest[1]))}" if said == "built" else f"noCellsIn {cells} {rest[0]}"
+        gives = f"builds_cells {octets(words[1])} {words[2]}"
+        should = f"cells_in {cells} {rest[0]} {joined(naturals(rest[1]))}" if said == "built" else f"no_cells_in {cells} {rest[0]}"
     elif call == "record":
-        gives = f"recordAt {octets(words[1])} {words[2]}"
+        gives = f"record_at {octets(words[1])} {words[2]}"
         should = f"taken {words[2]} {rest[0]} {len(octets_of(rest[1]))} {rest[2]}" if said == "record" else f"RecordAnswer.Refused {refusal(rest)}"
-    elif call == "decideCells":
-        gives = f"decidedCells {octets(words[1])} {words[2]} {words[3]} {words[4]}"
+    elif call == "decide_cells":
+        gives = f"decided_cells {octets(words[1])} {words[2]} {words[3]} {words[4]}"
         answer, keys, path, word = {
             "found": lambda: (f"(DecideAnswer.Found {rest[0]} {len(naturals(rest[1]))})", rest[3], rest[5], rest[1]),
             "never": lambda: (f"(DecideAnswer.Never {rest[0]})", rest[2], rest[4], "-"),
             "no-room": lambda: (f"(DecideAnswer.NoRoom {rest[0]})", rest[2], rest[4], "-"),
             "refused": lambda: (f"(DecideAnswer.Refused {refusal(rest)})", "-", "-", "-"),
         }[said]()
-        should = f"decisionIn {answer} {words[2]} {wholes(keys)} {words[3]} {joined(naturals(path))} {words[4]} {joined(naturals(word))}"
-    elif call == "buildCells":
-        gives = f"builtCells {octets(words[1])} {words[2]} {words[3]}"
+        should = f"decision_in {answer} {words[2]} {wholes(keys)} {words[3]} {joined(naturals(path))} {words[4]} {joined(naturals(word))}"
+    elif call == "build_cells":
+        gives = f"built_cells {octets(words[1])} {words[2]} {words[3]}"
         answer, keys, table = {
             "built": lambda: (f"(BuildAnswer.Built {rest[0]})", rest[2], rest[4]),
             "no-room": lambda: (f"(BuildAnswer.NoRoom {rest[0]})", rest[2], "-"),
             "refused": lambda: (f"(BuildAnswer.Refused {refusal(rest)})", "-", "-"),
         }[said]()
-        should = f"tableIn {answer} {words[2]} {wholes(keys)} {words[3]} {joined(naturals(table))}"
+        should = f"table_in {answer} {words[2]} {wholes(keys)} {words[3]} {joined(naturals(table))}"
     else:
         gives = f"spells {words[1]} {words[2]} {joined(naturals(words[3]))}"
         should = f"spelling (SpellAnswer.Value {rest[0]})" if said == "value" else f"spelling (SpellAnswer.Refused {refusal(rest)})"
@@ -138,7 +138,7 @@ def tree(records, n):
         numbers = [int.from_bytes(body[4 * i:4 * i + 4], "little", signed=True) for i in range(n + 1)]
         cells = [whole(str(z)) for z in numbers]
         return "(Tree.atom (record {{ kind = {}; coefficients = {}; constant = {} }}))".format(
-            "equation" if kind == 0x10 else "atMost", joined(cells[:-1]), cells[-1])
+            "equation" if kind == 0x10 else "at_most", joined(cells[:-1]), cells[-1])
     parts = [tree(records, n) for _ in range(1 if kind == 0x20 else 2)]
     return "({} {})".format({0x20: "Tree.not", 0x21: "Tree.and", 0x22: "Tree.or"}[kind], " ".join(parts))
 
@@ -161,14 +161,14 @@ def tree_line(words):
         return f"    line (asks {n} {t}) (tree true {octets(words[1])}) ∷"
     if call == "judge" and said in ("yes", "no"):
         n, t = question_tree(words[1])
-        return f"    line (saysTree {t} {joined(naturals(words[2]))}) (holding {'true' if said == 'yes' else 'false'}) ∷"
+        return f"    line (says_tree {t} {joined(naturals(words[2]))}) (holding {'true' if said == 'yes' else 'false'}) ∷"
     return None
 
 
 def cost(words):
     """What a line takes to compute: where there is a search, the rows squared times the letters; and its length."""
     search = 0
-    if words[0] in ("decide", "build", "decideCells", "buildCells"):
+    if words[0] in ("decide", "build", "decide_cells", "build_cells"):
         said, states = words[OUTCOME[words[0]]:][:2]
         rows = states if said in ("never", "built") or words[0] in APART else words[2]
         search = 0 if said == "refused" else int(rows) ** 2 * 2 ** octets_of(words[1])[4]
@@ -189,9 +189,9 @@ def imports_of(path):
 
 def import_line(words):
     if words[2] == "refused":
-        return f"    bytesLine {octets(words[1])} (refusedBy {words[3]} {words[4]}) ∷"
+        return f"    bytes_line {octets(words[1])} (refused_by {words[3]} {words[4]}) ∷"
     n, codes, coefficients, constants = words[3:]
-    return "    bytesLine {} (acceptedAs {} {} {} {}) ∷".format(
+    return "    bytes_line {} (accepted_as {} {} {} {}) ∷".format(
         octets(words[1]), n, joined(unpadded(naturals(codes))),
         joined(unpadded([whole(x) for x in naturals(coefficients)])),
         joined(unpadded([whole(x) for x in naturals(constants)])))
@@ -205,7 +205,7 @@ def lines_of(path):
         if "=" in words:
             words.remove("=")
             if words[0] in ("decide", "build"):
-                words[0] += "Cells"
+                words[0] += "_cells"
         if words[0] != "ask" and "short" not in words and "#" not in text:
             yield words
 
@@ -237,13 +237,13 @@ if __name__ == "__main__":
     with open(FILE, "w") as out:
         out.write(head + MARK)
         for call, lines in by_call.items():
-            kind = {"record": "Pair RecordAnswer", "decideCells": "Pair Decided", "buildCells": "Pair Built"}.get(call)
+            kind = {"record": "Pair RecordAnswer", "decide_cells": "Pair Decided", "build_cells": "Pair Built"}.get(call)
             lists = f"List ({kind})" if kind else "List Line"
-            claim = f"allIn {call}Vectors ≡ allWanted {call}Vectors" if kind else f"allGiven {call}Vectors ≡ wanted {call}Vectors"
-            out.write(f"\nabbrev {call}Vectors : {lists}\n{call}Vectors =\n" + "\n".join(lines) + "\n    []\n")
-            out.write(f"\npub {call}-vectors-hold : {claim}\nunfolding running\n{call}-vectors-hold = refl\n")
+            claim = f"all_in {call}_vectors ≡ all_wanted {call}_vectors" if kind else f"all_given {call}_vectors ≡ wanted {call}_vectors"
+            out.write(f"\nabbrev {call}_vectors : {lists}\n{call}_vectors =\n" + "\n".join(lines) + "\n    []\n")
+            out.write(f"\npub {call}_vectors_hold : {claim}\nunfolding running\n{call}_vectors_hold = refl\n")
     head = open(IMPORTS).read().split(MARK)[0]
     with open(IMPORTS, "w") as out:
         lines = [import_line(words) for path in sys.argv[1:] for words in imports_of(path)]
-        out.write(head + MARK + "\nabbrev importVectors : List TextLine\nimportVectors =\n" + "\n".join(lines) + "\n    []\n")
-        out.write("\npub import-vectors-hold : textsGiven importVectors ≡ textsWanted importVectors\nunfolding importing\nimport-vectors-hold = refl\n")
+        out.write(head + MARK + "\nabbrev import_vectors : List TextLine\nimport_vectors =\n" + "\n".join(lines) + "\n    []\n")
+        out.write("\npub import_vectors_hold : texts_given import_vectors ≡ texts_wanted import_vectors\nunfolding importing\nimport_vectors_hold = refl\n")
