@@ -18,5 +18,7 @@ pub loop-count-preserved : goal.loop-count-preserved
 loop-count-preserved g c = record {
   same_length = search rules;
   within = search rules;
-  read = subst (Consumes _ _) (sym (front _ _ _ _ _ c.loop-count.invariant.within c.in_ok-more.ensures.bound.0)) (Consumes-trans _ _ _ _ _ c.loop-count.invariant.read c.in_ok-more.ensures.bytes.0);
+  read =
+      subst (Consumes _ _) (sym (front _ _ _ _ _ c.loop-count.invariant.within c.in_ok-more.ensures.bound.0))
+      (Consumes-trans _ _ _ _ _ c.loop-count.invariant.read c.in_ok-more.ensures.bytes.0);
 }

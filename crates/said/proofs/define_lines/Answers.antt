@@ -17,4 +17,9 @@ loop-i-init c = (search rules, omega arith, refl, put_none _ _)
 pub loop-i-preserved : goal.loop-i-preserved
 loop-i-preserved c =
     let h : c.loop-i.i < c.args.n = omega arith in
-    (omega arith, omega (arith, c.loop-i.invariant.1, c.define_line-next.ensures.1, one_row_more c.loop-i.i (c.loop-i.i + 1) (length c.args.text.now + 64) (omega arith)), c.define_line-next.auto.out ∙ c.loop-i.invariant.2, put_as (lines_more c.args.text.now c.args.bounds.now c.loop-i.i c.args.word.now c.value_of-value.result c.value_of-value.ensures) (put_both c.loop-i.invariant.3 c.define_line-next.ensures.0))
+    let lines = lines_more c.args.text.now c.args.bounds.now c.loop-i.i c.args.word.now _ c.value_of-value.ensures in (
+      omega arith,
+      omega (arith, one_row_more c.loop-i.i (c.loop-i.i + 1) (length c.args.text.now + 64) (omega arith)),
+      c.define_line-next.auto.out ∙ c.loop-i.invariant.2,
+      put_as lines (put_both c.loop-i.invariant.3 c.define_line-next.ensures.0),
+    )

@@ -10,4 +10,5 @@ use Rattle.smt.proofs.decide_held.Goals as goal
 
 pub returns : goal.returns
 returns c h =
-    put_as (ap (said_in c.args.text.now c.args.names.now c.args.question.n) (held_bytes c.args.question h _ _ _ (omega (arith, length-replicate {A = ℕ} 489 0)) c.put_question-count.ensures)) c.decide_bytes.ensures
+    let bytes = held_bytes c.args.question h _ _ _ (omega (arith, length-replicate {A = ℕ} 489 0)) c.put_question-count.ensures in
+    put_as (ap (said_in c.args.text.now c.args.names.now c.args.question.n) bytes) c.decide_bytes.ensures

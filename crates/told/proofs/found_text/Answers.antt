@@ -7,4 +7,5 @@ use Rattle.told.proofs.found_text.Goals as goal
 pub returns : goal.returns
 unfolding found_text
 returns c =
-    (put_both c.put_bytes-values.ensures (put_both c.values_line-letters.ensures.0 (put_both c.letters_line-end.ensures.0 c.states_line.ensures.0)), omega (arith, c.put_bytes-values.ensures.ends, c.values_line-letters.ensures.1, c.letters_line-end.ensures.1, c.states_line.ensures.1))
+    let letters = put_both c.letters_line-end.ensures.0 c.states_line.ensures.0 in
+    (put_both c.put_bytes-values.ensures (put_both c.values_line-letters.ensures.0 letters), omega arith)

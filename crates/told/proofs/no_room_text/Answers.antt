@@ -7,4 +7,4 @@ use Rattle.told.proofs.no_room_text.Goals as goal
 pub returns : goal.returns
 unfolding no_room_text
 returns c =
-    (put_both c.put_bytes-end.ensures c.states_line.ensures.0, omega (arith, c.put_bytes-end.ensures.ends, c.states_line.ensures.1))
+    (put_both c.put_bytes-end.ensures c.states_line.ensures.0, omega arith)

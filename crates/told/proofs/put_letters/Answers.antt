@@ -21,5 +21,9 @@ loop-i-init c = (search rules, search rules, refl, put_none _ _)
 
 pub loop-i-preserved : goal.loop-i-preserved
 loop-i-preserved c =
-    let h : c.loop-i.i < length c.args.word.now = omega arith in
-    (omega arith, omega (arith, c.loop-i.invariant.1, c.put_letter-next.ensures.1), c.put_letter-next.auto.out ∙ c.loop-i.invariant.2, put_as (one_more c.args.word.now c.loop-i.i h) (put_both c.loop-i.invariant.3 c.put_letter-next.ensures.0))
+    let h : c.loop-i.i < length c.args.word.now = omega arith in (
+      omega arith,
+      omega arith,
+      c.put_letter-next.auto.out ∙ c.loop-i.invariant.2,
+      put_as (one_more c.args.word.now c.loop-i.i h) (put_both c.loop-i.invariant.3 c.put_letter-next.ensures.0),
+    )

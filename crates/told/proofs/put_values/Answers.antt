@@ -1,12 +1,12 @@
 -- `told::put_values` meets its contract. The invariant: the values of the first variables are put. Assumes nothing.
-use Prim.Native.Nat.{ℕ, ◌+◌, ◌-◌, ◌≤◌}
+use Prim.Native.Nat.{ℕ, ◌+◌, ◌-◌}
 use native.Mathlib.Omega.{arith}
 use mathlib.Core.Path.{◌≡◌, refl, sym, ap, ◌∙◌}
 use mathlib.Core.List.{List, ◌++◌}
 use borrow.Author.Rules.{rules}
 use Rattle.scope.specs.Words.{value, spelled, values_from}
 use Rattle.told.specs.Text.{spaced, numbers}
-use Rattle.told.specs.Values.{six_variables, spelled_more}
+use Rattle.told.specs.Values.{spelled_more}
 use Rattle.told.specs.Writers.{put_none, put_both, put_as}
 use Rattle.told.proofs.put_values.Goals as goal
 use Rattle.told.proofs.put_values.Goals.{Start}
@@ -20,9 +20,10 @@ pub loop-variable-init : goal.loop-variable-init
 unfolding numbers spelled values_from
 loop-variable-init c = (search rules, search rules, refl, put_none _ _)
 
-six : (c : goal.Start) → c.args.n ≤ 6
-six c = six_variables c.args.n c.args.word.now c.requires.0
-
 pub loop-variable-preserved : goal.loop-variable-preserved
-loop-variable-preserved c =
-    (omega arith, omega (arith, c.loop-variable.invariant.1, c.put_number-next.ensures.1), c.put_number-next.auto.out ∙ c.loop-variable.invariant.2, put_as (one_more c.args.word.now c.loop-variable.variable c.value_of.result c.value_of.ensures) (put_both c.loop-variable.invariant.3 c.put_number-next.ensures.0))
+loop-variable-preserved c = (
+  omega arith,
+  omega arith,
+  c.put_number-next.auto.out ∙ c.loop-variable.invariant.2,
+  put_as (one_more c.args.word.now _ _ c.value_of.ensures) (put_both c.loop-variable.invariant.3 c.put_number-next.ensures.0),
+)

@@ -7,4 +7,4 @@ use Rattle.told.proofs.short_text.Goals as goal
 pub returns : goal.returns
 unfolding short_text
 returns c =
-    (put_both c.put_bytes-end.ensures c.states_line.ensures.0, omega (arith, c.put_bytes-end.ensures.ends, c.states_line.ensures.1))
+    (put_both c.put_bytes-end.ensures c.states_line.ensures.0, omega arith)

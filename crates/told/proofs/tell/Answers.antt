@@ -30,7 +30,9 @@ module _ (n : ℕ) (answer : DecideAnswer) (word out before after : List ℕ) (r
 
 pub returns-then-out-length : goal.returns-then-out-length
 returns-then-out-length c =
-    tells c.args.n c.args.answer c.args.word.now c.args.out.now _ _ c.put_text-length.result c.put_text-length.ensures.0 c.put_text-length.ensures.1 (too_short c.args.n c.args.answer c.args.word.now c.args.out.now _ _ c.put_text-length.result c.put_text-length.ensures.0 (omega arith))
+    let p = c.put_text-length in
+    tells c.args.n c.args.answer c.args.word.now c.args.out.now _ _ p.result p.ensures.0 p.ensures.1
+    (too_short c.args.n c.args.answer c.args.word.now c.args.out.now _ _ p.result p.ensures.0 (omega arith))
 
 pub returns : goal.returns
 returns c =

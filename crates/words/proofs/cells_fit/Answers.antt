@@ -1,13 +1,13 @@
 -- `words::cells_fit` meets its contract. The invariant: the column is the cell's, and the cells from c on fit exactly if all do. Assumes nothing.
 use Prim.Native.Nat.{ℕ, ◌+◌, ◌%◌}
-use native.Mathlib.Nat.{mod-add-mod, mod-lt, mod-eq_of_lt}
+use native.Mathlib.Nat.{mod-add-mod}
 use native.Mathlib.Omega.{arith}
-use mathlib.Core.Path.{◌≡◌, refl, sym, ap, ◌∙◌}
+use mathlib.Core.Path.{◌≡◌, sym, ap, ◌∙◌}
 use mathlib.Core.Bool.{cond}
 use lib.ListN.{get_or}
 use lib.Dec.{leb, ltb, eqb}
 use Rattle.scope.specs.Running.{cell_fits}
-use Rattle.theory.specs.Numbers.Tests.{failed, passed, all_from_more, all_from_fails, all_from_done}
+use Rattle.theory.specs.Numbers.Tests.{all_from_more, all_from_fails, all_from_done}
 use Rattle.words.proofs.cells_fit.Goals as goal
 use Rattle.words.proofs.cells_fit.Goals.{After-cell_fits}
 
@@ -17,23 +17,16 @@ tested c =
     let x = get_or c.args.cells.now c.loop-c.c 0 in
     c.cell_fits.ensures ∙ ap (λ (k : ℕ). cond (eqb k 0) (leb x 1) (ltb x c.args.rows)) c.loop-c.invariant.1
 
-pub loop-c-init : goal.loop-c-init
-loop-c-init c = (omega arith, sym (mod-eq_of_lt c.requires), refl)
-
 pub returns-then-not-cell_fits : goal.returns-then-not-cell_fits
 returns-then-not-cell_fits c =
-    sym (all_from_fails _ _ 0 c.loop-c.c (omega arith) (failed (tested (goal.at.returns-then-not-cell_fits c).After-cell_fits) c.if-not-cell_fits.true-raw)) ∙ c.loop-c.invariant.2
-
-pub column_after-column-requires : goal.column_after-column-requires
-column_after-column-requires c =
-    rw c.loop-c.invariant.1 (mod-lt c.loop-c.c c.requires)
+    sym (all_from_fails _ _ 0 c.loop-c.c (omega arith) (sym (tested (goal.at.returns-then-not-cell_fits c).After-cell_fits) ∙ c.if-not-cell_fits.true)) ∙ c.loop-c.invariant.2
 
 pub loop-c-preserved : goal.loop-c-preserved
 loop-c-preserved c =
     let w = c.args.width in (
       omega arith,
       c.column_after-column.ensures ∙ ap (λ (k : ℕ). (k + 1) % w) c.loop-c.invariant.1 ∙ mod-add-mod c.loop-c.c w 1,
-      sym (all_from_more _ _ 0 c.loop-c.c (omega arith) (passed (tested (goal.at.loop-c-preserved c).After-cell_fits) c.if-not-cell_fits.false-raw)) ∙ c.loop-c.invariant.2,
+      sym (all_from_more _ _ 0 c.loop-c.c (omega arith) (sym (tested (goal.at.loop-c-preserved c).After-cell_fits) ∙ c.if-not-cell_fits.false)) ∙ c.loop-c.invariant.2,
     )
 
 pub returns : goal.returns

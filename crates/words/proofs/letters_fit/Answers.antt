@@ -15,6 +15,3 @@ loop-i-preserved c =
 
 pub returns : goal.returns
 returns c = sym (all_done _ _ 0 c.loop-i.i (omega arith)) ∙ c.loop-i.invariant.1
-
-pub overflow_cast-letter : goal.overflow_cast-letter
-overflow_cast-letter c = omega (arith, c.type_inv.word c.loop-i.i)

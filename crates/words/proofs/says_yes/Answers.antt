@@ -25,29 +25,19 @@ loop-i-init c = (omega arith, (walk c.requires c.table_width-width.ensures).firs
 
 pub loop-i-preserved : goal.loop-i-preserved
 loop-i-preserved c =
+    let p = goal.at.loop-i-preserved c in
     let t = c.loop-i-test.true in (
       omega arith,
-      next_row (at_loop (goal.at.loop-i-preserved c).At-loop-i) c.loop-i.row c.loop-i.invariant.1 c.loop-i.i t,
-      sym (row_step (at_loop (goal.at.loop-i-preserved c).At-loop-i) c.loop-i.row c.loop-i.invariant.1 c.loop-i.i t) ∙ c.loop-i.invariant.2,
+      next_row (at_loop p.At-loop-i) c.loop-i.row c.loop-i.invariant.1 c.loop-i.i t,
+      sym (row_step (at_loop p.At-loop-i) c.loop-i.row c.loop-i.invariant.1 c.loop-i.i t) ∙ c.loop-i.invariant.2,
     )
 
 pub returns : goal.returns
 unfolding says_yes
 returns c =
-    let e : c.loop-i.row ≡ row_after c.args.n c.args.cells.now 0 c.args.word.now = sym (row_last c.args.n c.args.cells.now c.args.word.now c.loop-i.row c.loop-i.i (omega arith)) ∙ c.loop-i.invariant.2 in
+    let e : c.loop-i.row ≡ row_after c.args.n c.args.cells.now 0 c.args.word.now =
+    sym (row_last c.args.n c.args.cells.now c.args.word.now c.loop-i.row c.loop-i.i (omega arith)) ∙ c.loop-i.invariant.2 in
     λ k. eqb (get_or c.args.cells.now (e k * c.table_width-width.ensures k) 0) 1
-
-pub table_width-width-requires : goal.table_width-width-requires
-table_width-width-requires c = c.requires.small
-
-pub overflow_cast-letter : goal.overflow_cast-letter
-overflow_cast-letter c = omega (arith, c.type_inv.word c.loop-i.i)
-
-pub overflow_mul-row : goal.overflow_mul-row
-overflow_mul-row c = omega (arith, inside (goal.at.overflow_mul-row c).In-loop-i)
-
-pub overflow_add-row : goal.overflow_add-row
-overflow_add-row c = omega (arith, inside (goal.at.overflow_add-row c).In-loop-i)
 
 pub overflow_add-row-in-loop-i : goal.overflow_add-row-in-loop-i
 overflow_add-row-in-loop-i c = omega (arith, inside (goal.at.overflow_add-row-in-loop-i c).In-loop-i)
@@ -57,15 +47,6 @@ offset_bounds-cells-row c = omega (arith, inside (goal.at.offset_bounds-cells-ro
 
 pub bounds-cells-row : goal.bounds-cells-row
 bounds-cells-row c = inside (goal.at.bounds-cells-row c).In-loop-i
-
-pub overflow_cast-row : goal.overflow_cast-row
-overflow_cast-row c = omega (arith, c.type_inv.cells (c.loop-i.row * c.table_width-width.result + 1 + get_or c.args.word.now c.loop-i.i 0))
-
-pub overflow_mul-result : goal.overflow_mul-result
-overflow_mul-result c = omega (arith, accept_within (at_loop (goal.at.overflow_mul-result c).At-loop-i) c.loop-i.row c.loop-i.invariant.1)
-
-pub offset_bounds-cells-row-2 : goal.offset_bounds-cells-row-2
-offset_bounds-cells-row-2 c = omega (arith, accept_within (at_loop (goal.at.offset_bounds-cells-row-2 c).At-loop-i) c.loop-i.row c.loop-i.invariant.1)
 
 pub bounds-cells-row-2 : goal.bounds-cells-row-2
 bounds-cells-row-2 c = accept_within (at_loop (goal.at.bounds-cells-row-2 c).At-loop-i) c.loop-i.row c.loop-i.invariant.1

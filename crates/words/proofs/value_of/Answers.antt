@@ -1,7 +1,7 @@
 -- `words::value_of` meets its contract. The invariant: v is what the letters from i on spell. Assumes nothing.
 use Prim.Native.Nat.{ℕ, suc, ◌+◌, ◌*◌, ◌-◌, ◌≤◌, ◌<◌, ◌^◌}
 use native.Mathlib.Omega.{arith}
-use mathlib.Core.Path.{◌≡◌, ap, ◌∙◌}
+use mathlib.Core.Path.{◌≡◌, ap}
 use mathlib.Core.List.{List}
 use lib.ListN.{length, get_or, drop}
 use lib.Seq.{drop-length}
@@ -39,11 +39,3 @@ overflow_add-v c = record { fits = omega (arith, next c, next_fits c) }
 pub loop-i-preserved : goal.loop-i-preserved
 unfolding digit
 loop-i-preserved c = (omega arith, next c)
-
-pub returns : goal.returns
-returns c =
-    let z : c.loop-i.i ≡ 0 = omega arith in
-    c.loop-i.invariant.1 ∙ ap (λ (k : ℕ). value (drop k c.args.word.now) c.args.j) z
-
-pub overflow_cast-letter : goal.overflow_cast-letter
-overflow_cast-letter c = omega (arith, c.type_inv.word (c.loop-i.i - 1))
