@@ -44,7 +44,8 @@ use Rattle.smtlib.specs.Meaning.{text_holds}
 use Rattle.smtlib.specs.Names.{GivesNames, valued}
 use Rattle.smtlib.specs.Imported.{bounds_of, imported}
 use Rattle.smtlib.specs.Cases.{script_in}
-use Rattle.smtlib.proofs.Accepted.{declared_names, imported_question}
+use Rattle.smtlib.specs.Accepted.{declared_names}
+use Rattle.smtlib.proofs.Accepted.{imported_question}
 use Rattle.smtlib.proofs.Means.{text_means, model_natural, never_no_integers, found_holds}
 use Rattle.importing.specs.declared.answer.Import.{Import}
 use Rattle.importing.specs.Given.{no_bounds, bounds_if, import_given}

@@ -15,7 +15,7 @@ use Rattle.scope.specs.Words.{Word, spelled}
 use Rattle.smtlib.specs.Forms.{forms_of}
 use Rattle.smtlib.specs.Meaning.{text_holds}
 use Rattle.smtlib.specs.Names.{valued}
-use Rattle.smtlib.proofs.Accepted.{declared_names}
+use Rattle.smtlib.specs.Accepted.{declared_names}
 use Rattle.told.specs.Text.{ascii}
 use Rattle.said.specs.Said.{error_line, model_lines}
 use Rattle.importing.specs.Given.{bounds_if}

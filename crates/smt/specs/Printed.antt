@@ -30,7 +30,8 @@ use Rattle.smtlib.specs.Imported.{imported}
 use Rattle.smtlib.specs.Meaning.{text_holds}
 use Rattle.smtlib.specs.Cases.{question_in}
 use Rattle.smtlib.specs.Names.{GivesNames, valued}
-use Rattle.smtlib.proofs.Accepted.{declared_names, accepted_question, accepted_within}
+use Rattle.smtlib.specs.Accepted.{declared_names}
+use Rattle.smtlib.proofs.Accepted.{accepted_question, accepted_within}
 use Rattle.smtlib.proofs.Means.{never_no_integers, found_holds}
 use Rattle.told.specs.Text.{ascii}
 use Rattle.said.specs.Said.{error_line, model_lines, sat_said, said_of}

@@ -14,24 +14,18 @@ use Rattle.theory.specs.Wire.Checks.{none_passed}
 use Rattle.theory.specs.Trees.Written.{held_written}
 use Rattle.smtlib.specs.Forms.{forms_of}
 use Rattle.smtlib.specs.Formulas.{Clause}
-use Rattle.smtlib.specs.Script.{unless, Stage, start, under, checked, Declaration, Script, names_of, unsigned, missing_forms, missing_names, all_outside, all_beyond}
+use Rattle.smtlib.specs.Script.{unless, Stage, start, under, checked, Declaration, Script, unsigned, missing_forms, missing_names, all_outside, all_beyond}
 use Rattle.smtlib.specs.Imported.{tree_of, imported}
 use Rattle.smtlib.specs.Values.{append_none}
 use Rattle.smtlib.specs.Steps.{unless_none}
 use Rattle.smtlib.proofs.Scripts.{few_names}
 use Rattle.smtlib.proofs.Rows.{script_six}
-use Rattle.smtlib.proofs.Within.{passed_within}
+use Rattle.smtlib.specs.Within.{passed_within}
+use Rattle.smtlib.specs.Accepted.{Faultless, declared_names}
 use Rattle.smtlib.specs.Lowest.{faultless_exactly}
 use Rattle.smtlib.specs.Cases.{script_in, formula_in, limit_checks, question_in, ImportAccepted, accepted_exactly, accepted_import}
 
 -- ---- a script without faults
-
-pub record Faultless (s : Script) : Type 0 where
-  pub outside : s.outside ≡ []
-  pub beyond : s.beyond ≡ []
-  pub signed : unsigned s.declarations ≡ []
-  pub asserted : 0 < length s.asserted
-  pub named : 0 < length s.declarations
 
 some_there : (n at : ℕ) → unless (ltb 0 n) at ≡ [] → 0 < n
 some_there n at e = ltb-true 0 n (unless_none (ltb 0 n) at e)
@@ -52,9 +46,6 @@ faultless end s e f =
     record { outside = o; beyond = b; signed = u; asserted = there.0; named = there.1 }
 
 -- ---- an accepted text
-
-abbrev pub declared_names : List ℕ → List (List ℕ)
-declared_names text = names_of (script_in text).declarations
 
 module _ (text : List ℕ) (accepted : (imported text).answer ≡ ReadAnswer.Accepted) where
   passes : ImportAccepted text

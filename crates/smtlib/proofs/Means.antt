@@ -21,7 +21,8 @@ use Rattle.smtlib.specs.Names.{GivesNames, gives_length, gives_named, valued, va
 use Rattle.smtlib.specs.Steps.{unless_none}
 use Rattle.smtlib.proofs.Scripts.{distinct_names, SignedNatural, signed_hold, all_hold, asserted_says}
 use Rattle.smtlib.specs.Cases.{script_in, formula_in}
-use Rattle.smtlib.proofs.Accepted.{declared_names, accepted_faultless, accepted_few, accepted_question, variables_names, accepted_within}
+use Rattle.smtlib.specs.Accepted.{declared_names}
+use Rattle.smtlib.proofs.Accepted.{accepted_faultless, accepted_few, accepted_question, variables_names, accepted_within}
 
 -- ---- the assertions joined by and
 

@@ -11,16 +11,8 @@ use Rattle.smtlib.specs.Formulas.{Formula, Clause, sides, compared, comparison, 
 use Rattle.smtlib.specs.Script.{Command, Script, names_of, script_of}
 use Rattle.smtlib.specs.Imported.{conjoined}
 use Rattle.smtlib.specs.Laws.{Seven, less_seven, terms_seven}
+use Rattle.smtlib.specs.Rows.{RowsOfSix, ClauseOfSix}
 use Rattle.smtlib.specs.Steps.{Change, nothing_new, new_name, new_sign, new_clause, CommandStep, script_keeps}
-
-abbrev pub RowsOfSix : Formula → Type 0
-RowsOfSix (Formula.atom at κ row k) = length row ≡ most_variables
-RowsOfSix (Formula.not at f) = RowsOfSix f
-RowsOfSix (Formula.and at f g) = RowsOfSix f × RowsOfSix g
-RowsOfSix (Formula.or at f g) = RowsOfSix f × RowsOfSix g
-
-abbrev pub ClauseOfSix : Clause → Type 0
-ClauseOfSix c = RowsOfSix c.formula
 
 sides_seven : (r : Relation) (k l : List ℤ) → length k ≡ suc most_variables → length l ≡ suc most_variables → length (sides r k l) ≡ suc most_variables
 unfolding sides

@@ -23,3 +23,9 @@ pub mod Names
 pub mod Signs
 -- what a command does to the script
 pub mod Steps
+-- six coefficients in every atom
+pub mod Rows
+-- what passes its checks is within the limits of a question
+pub mod Within
+-- what is said of an accepted text
+pub mod Accepted

@@ -1,7 +1,6 @@
 -- The words that SMT-LIB 2.6 or the subset gives a meaning, as bytes, and whether two spellings are the same.
 use Rattle.std.specs.Prelude.{ℕ, Bool, true, false, cond, ◌&&◌, ◌||◌, List, [], ◌∷◌, ◌++◌, eqb}
 use Prim.Native.Char.{code}
-use Prim.Native.String
 use Prim.Native.String.{String}
 
 unfoldable pub same : List ℕ → List ℕ → Bool

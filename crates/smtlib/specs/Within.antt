@@ -14,7 +14,7 @@ use Rattle.theory.specs.Wire.Checks.{Passed, and_first, and_second, and_both, wa
 use Rattle.theory.specs.Trees.Limits.{Fits, fits_tree, tree_limits}
 use Rattle.smtlib.specs.Formulas.{Formula}
 use Rattle.smtlib.specs.Imported.{PlacedNode, placed_from, placed_checks, tree_of}
-use Rattle.smtlib.proofs.Rows.{RowsOfSix}
+use Rattle.smtlib.specs.Rows.{RowsOfSix}
 
 -- ---- the limits, node by node
 
