@@ -12,6 +12,7 @@ It prints nothing and exits 0 where all is well; else it prints a line for each 
 5. A name in backticks in docs/ and README.md is in crates/, include/, rust/ or bench/. A name is one word with a capital, an underscore or a hyphen. A
    path that begins with crates/ is there, with or without `.antt` or `.edit`. (docs/PORT.md tells of names that were.)
 6. Each `old:` text of a must-fail edit is in its file exactly once, where the pairs before it are applied.
+7. The calls that pelohuaki_archive exports have the parameters and the contracts of those of pelohuaki_c.
 """
 import re
 import sys
@@ -175,6 +176,20 @@ def edits_right():
                 old = ""
 
 
+def calls_of(crate):
+    """The public calls of a crate, each with its parameters, result and contract."""
+    text = COMMENT[".rt"].sub("", Path(f"crates/{crate}/src/lib.rt").read_text())
+    found = re.findall(r'^pub (?:extern "C" )?fn (\w+)(.*?)^\{', text, re.M | re.S)
+    return {name: re.sub(r"\s+|,(?=\s*\))", "", rest) for name, rest in found}
+
+
+def exports_alike():
+    ours, exported = calls_of("pelohuaki_c"), calls_of("pelohuaki_archive")
+    for name in sorted(ours.keys() | exported.keys()):
+        if ours.get(name) != exported.get(name):
+            fault("crates/pelohuaki_archive/src/lib.rt", f"{name} is not as pelohuaki_c has it")
+
+
 antt = [Source(p) for part in ("specs", "proofs") for p in sorted(Path("crates").glob(f"*/{part}/**/*.antt"))]
 both = antt + [Source(p) for p in sorted(Path("crates").glob("*/src/**/*.rt"))]
 defined_once(antt)
@@ -182,5 +197,6 @@ heads_right(both)
 imports_used(both)
 documents_right(both)
 edits_right()
+exports_alike()
 print(*faults, sep="\n", end="\n" if faults else "")
 sys.exit(1 if faults else 0)
