@@ -9,7 +9,6 @@ use Rattle.told.specs.Text.{spaced, numbers}
 use Rattle.told.specs.Values.{spelled_more}
 use Rattle.told.specs.Writers.{put_none, put_both, put_as}
 use Rattle.told.proofs.put_values.Goals as goal
-use Rattle.told.proofs.put_values.Goals.{Start}
 
 one_more : (word : List ℕ) (j v : ℕ) → v ≡ value word (j + 1 - 1) → numbers (spelled j word) ++ spaced v ≡ numbers (spelled (j + 1) word)
 one_more word j v e =
