@@ -53,7 +53,7 @@ fn explore(
     requires linked { Linked plan keys.old links.old from.count }
     requires stopped_value { from.stopped ≡ false }
     ensures exploring_ended { ExploringEnded (machine plan sums.now keys.old) plan from.count keys.old path.old keys.new path.new result }
-    ensures linked_2 { result.stopped ≡ false → Linked plan keys.new links.new result.count }
+    ensures linked { result.stopped ≡ false → Linked plan keys.new links.new result.count }
 {
     let mut s = from;
     while s.row < s.count {
@@ -79,7 +79,7 @@ pub fn resume(
     requires linked { Linked plan keys.old links.old 0 }
     requires stopped_value { from.stopped ≡ false }
     ensures exploring_ended { ExploringEnded (machine plan sums.now keys.old) plan from.count keys.old path.old keys.new path.new result }
-    ensures linked_2 { result.stopped ≡ false → Linked plan keys.new links.new result.count }
+    ensures linked { result.stopped ≡ false → Linked plan keys.new links.new result.count }
 {
     insert_rows(keys, plan.width, links, from.count);
     explore(plan, sums, keys, path, links, from)

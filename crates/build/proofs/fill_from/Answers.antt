@@ -13,7 +13,7 @@ pub write_rows-requires : goal.write_rows-requires
 write_rows-requires c =
     let going = c.if-s.false in
     let given = c.requires.filling in
-    record { tabling = rows_tabled given c.resume-s.ensures.exploring_ended c.resume-s.auto.keys going; indexed = (c.resume-s.ensures.linked_2 going).indexed; letters_in_bounds = rows_fit given c.resume-s.ensures.exploring_ended c.resume-s.auto.keys going }
+    record { tabling = rows_tabled given c.resume-s.ensures.exploring_ended c.resume-s.auto.keys going; indexed = (c.resume-s.ensures.linked going).indexed; letters_in_bounds = rows_fit given c.resume-s.ensures.exploring_ended c.resume-s.auto.keys going }
 
 pub returns : goal.returns
 returns c = record { ended = c.resume-s.ensures.exploring_ended; table_is = rw c.if-s.false c.write_rows.ensures }

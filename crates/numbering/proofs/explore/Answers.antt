@@ -29,7 +29,7 @@ module _ (c : goal.After-try_row-s) where
 
 pub returns-then-s : goal.returns-then-s
 returns-then-s c =
-    record { exploring_ended = stops c.loop-s.invariant.3 (tried (goal.at.returns-then-s c).After-try_row-s) c.if-s.true; linked_2 = λ going. absurd (true≢false (sym c.if-s.true ∙ going)) }
+    record { exploring_ended = stops c.loop-s.invariant.3 (tried (goal.at.returns-then-s c).After-try_row-s) c.if-s.true; linked = λ going. absurd (true≢false (sym c.if-s.true ∙ going)) }
 
 pub loop-s-smaller : goal.loop-s-smaller
 loop-s-smaller c =
@@ -45,4 +45,4 @@ loop-s-preserved c =
 pub returns : goal.returns
 returns c =
     let e = c.loop-s.invariant.3 in
-    record { exploring_ended = ends e c.loop-s-test.false; linked_2 = λ _. e.linked }
+    record { exploring_ended = ends e c.loop-s-test.false; linked = λ _. e.linked }
