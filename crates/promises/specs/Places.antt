@@ -1,5 +1,5 @@
 -- A place in a question: any two outcomes of opening it, of peeking at its record and of a step coincide; and a refused step stays.
--- These calls are walked by hand, over a struct that holds a reference, and export no `Post`: their outcomes are tied to the `ensures` clauses themselves, at the end.
+-- Their outcomes are tied to the `ensures` clauses themselves, at the end.
 use Rattle.std.specs.Prelude.{◌≡◌, refl, List, ℕ}
 use Rattle.std.proofs.Common.{sym, ap, ◌∙◌}
 use Rattle.std.specs.Borrow.{Bor}

@@ -1,7 +1,6 @@
 -- `figures::decide_told` meets its contract, case by case of the answer.
 use mathlib.Core.Path.{refl}
 use lib.Dec.{lit<}
-use borrow.Author.Rules.{rules}
 use Rattle.figures.proofs.decide_told.Goals as goal
 
 pub returns-in-Found : goal.returns-in-Found

@@ -1,7 +1,6 @@
 -- `figures::record_told` meets its contract, case by case of the answer.
 use mathlib.Core.Path.{refl}
 use lib.Dec.{lit<}
-use borrow.Author.Rules.{rules}
 use Rattle.figures.proofs.record_told.Goals as goal
 
 pub returns-in-Record : goal.returns-in-Record

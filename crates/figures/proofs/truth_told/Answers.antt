@@ -1,7 +1,6 @@
 -- `figures::truth_told` meets its contract, case by case of the answer.
 use mathlib.Core.Path.{refl}
 use lib.Dec.{lit<}
-use borrow.Author.Rules.{rules}
 use Rattle.figures.proofs.truth_told.Goals as goal
 
 pub returns-in-Yes : goal.returns-in-Yes

@@ -1,6 +1,5 @@
 -- `search::bound::bound_of` is safe and ends: what is left of the atoms falls. Assumes nothing.
 use Prim.Native.Nat.{◌-◌}
-use borrow.Author.Rules.{rules}
 use Rattle.search.proofs.bound.bound_of.Given as goal
 
 abbrev pub invariant-loop-atom : goal.invariant-loop-atom

@@ -1,6 +1,5 @@
 -- `search::cells::leads_right` is safe and ends: what is left of the letters falls. Assumes nothing.
 use Prim.Native.Nat.{◌-◌}
-use borrow.Author.Rules.{rules}
 use Rattle.search.proofs.cells.leads_right.Given as goal
 
 abbrev pub invariant-loop-letter : goal.invariant-loop-letter

@@ -1,6 +1,5 @@
 -- `search::cells::look_rows` is safe and ends: what is left of the states falls. Assumes nothing.
 use Prim.Native.Nat.{◌-◌}
-use borrow.Author.Rules.{rules}
 use Rattle.search.proofs.cells.look_rows.Given as goal
 
 abbrev pub invariant-loop-state : goal.invariant-loop-state

@@ -1,7 +1,6 @@
 -- `search::chance::below` meets its contract: a remainder is below its divisor. Assumes nothing.
 use native.Mathlib.Nat.{mod-lt}
 use native.Mathlib.Omega.{arith}
-use borrow.Author.Rules.{rules}
 use Rattle.search.proofs.chance.below.Goals as goal
 
 pub returns : goal.returns

@@ -1,6 +1,5 @@
 -- `search::drawn::draw_formula` is safe and ends: what is left of the nodes falls. Assumes nothing.
 use Prim.Native.Nat.{◌-◌}
-use borrow.Author.Rules.{rules}
 use Rattle.search.proofs.drawn.draw_formula.Given as goal
 
 abbrev pub invariant-loop-i : goal.invariant-loop-i

@@ -1,6 +1,5 @@
 -- `search::drawn::draw_numbers` is safe and ends: what is left of the columns falls. Assumes nothing.
 use Prim.Native.Nat.{◌-◌}
-use borrow.Author.Rules.{rules}
 use Rattle.search.proofs.drawn.draw_numbers.Given as goal
 
 abbrev pub invariant-loop-c : goal.invariant-loop-c

@@ -1,6 +1,5 @@
 -- `search::edges::edges_of` is safe and ends: what is left of the rows falls. Assumes nothing.
 use Prim.Native.Nat.{◌-◌}
-use borrow.Author.Rules.{rules}
 use Rattle.search.proofs.edges.edges_of.Given as goal
 
 abbrev pub invariant-loop-s : goal.invariant-loop-s

@@ -1,6 +1,5 @@
 -- `search::edges::next_at` is safe and ends: what is left of the table falls. Assumes nothing.
 use Prim.Native.Nat.{◌-◌}
-use borrow.Author.Rules.{rules}
 use Rattle.search.proofs.edges.next_at.Given as goal
 
 abbrev pub invariant-loop-at : goal.invariant-loop-at

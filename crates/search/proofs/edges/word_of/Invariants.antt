@@ -1,6 +1,3 @@
-use native.Mathlib.Nat.{mod-lt}
-use native.Mathlib.Omega.{arith}
-use borrow.Author.Rules.{rules}
 use Rattle.search.proofs.edges.word_of.Given as goal
 
 abbrev pub invariant-loop-at : goal.invariant-loop-at

@@ -1,6 +1,5 @@
 -- `search::held::codes_of` is safe and ends: what is left of the nodes falls. Assumes nothing.
 use Prim.Native.Nat.{◌-◌}
-use borrow.Author.Rules.{rules}
 use Rattle.search.proofs.held.codes_of.Given as goal
 
 abbrev pub invariant-loop-i : goal.invariant-loop-i

@@ -1,6 +1,5 @@
 -- `search::held::coefficients_of` is safe and ends: what is left of the coefficients falls. Assumes nothing.
 use Prim.Native.Nat.{◌-◌}
-use borrow.Author.Rules.{rules}
 use Rattle.search.proofs.held.coefficients_of.Given as goal
 
 abbrev pub invariant-loop-c : goal.invariant-loop-c

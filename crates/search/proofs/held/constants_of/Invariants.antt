@@ -1,6 +1,5 @@
 -- `search::held::constants_of` is safe and ends: what is left of the atoms falls. Assumes nothing.
 use Prim.Native.Nat.{◌-◌}
-use borrow.Author.Rules.{rules}
 use Rattle.search.proofs.held.constants_of.Given as goal
 
 abbrev pub invariant-loop-i : goal.invariant-loop-i

@@ -4,7 +4,6 @@ use mir.Syntax.{w32}
 use mir.ValLaws.{to_z_pos}
 use Rattle.theory.specs.Numbers.Magnitude.{abs_sub, fits_abs}
 use native.Mathlib.Omega.{arith}
-use borrow.Author.Rules.{rules}
 use Rattle.search.proofs.held.signed.Goals as goal
 
 pub overflow_sub-result : goal.overflow_sub-result

@@ -1,7 +1,6 @@
 -- `search::pieces::order_by` is safe and ends: a piece ends after its start, so what is left of the word falls. Assumes nothing.
 use Prim.Native.Nat.{◌-◌, ◌≤◌}
 use lib.ListN.{length}
-use borrow.Author.Rules.{rules}
 use Rattle.search.proofs.pieces.order_by.Given as goal
 
 abbrev pub invariant-loop-at : goal.invariant-loop-at

@@ -1,6 +1,5 @@
 -- `search::plain::satisfied` is safe and ends: what is left of the atoms falls. Assumes nothing.
 use Prim.Native.Nat.{◌-◌}
-use borrow.Author.Rules.{rules}
 use Rattle.search.proofs.plain.satisfied.Given as goal
 
 abbrev pub invariant-loop-atom : goal.invariant-loop-atom

@@ -1,5 +1,4 @@
 -- `search::plain::settled` is safe and ends: what is left of the nodes falls. Assumes nothing.
-use borrow.Author.Rules.{rules}
 use Rattle.search.proofs.plain.settled.Given as goal
 
 abbrev pub invariant-loop-i : goal.invariant-loop-i

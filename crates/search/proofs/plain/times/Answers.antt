@@ -2,7 +2,6 @@
 use native.Mathlib.Nat.{mul-le-mul}
 use Prim.Native.Nat.{◌≤◌, ◌*◌}
 use native.Mathlib.Omega.{arith}
-use borrow.Author.Rules.{rules}
 use Rattle.search.proofs.plain.times.Goals as goal
 
 pub overflow_mul-result : goal.overflow_mul-result

@@ -1,6 +1,5 @@
 -- `search::plain::weighed` is safe and ends: what is left of the row falls. Assumes nothing.
 use Prim.Native.Nat.{◌-◌}
-use borrow.Author.Rules.{rules}
 use Rattle.search.proofs.plain.weighed.Given as goal
 
 abbrev pub invariant-loop-cell : goal.invariant-loop-cell

@@ -1,6 +1,5 @@
 -- `search::rows::is_apart` is safe and ends: what is left of the states before falls. Assumes nothing.
 use Prim.Native.Nat.{◌-◌}
-use borrow.Author.Rules.{rules}
 use Rattle.search.proofs.rows.is_apart.Given as goal
 
 abbrev pub invariant-loop-before : goal.invariant-loop-before

@@ -1,6 +1,5 @@
 -- `search::rows::row_right` is safe and ends: what is left of the atoms falls. Assumes nothing.
 use Prim.Native.Nat.{◌-◌}
-use borrow.Author.Rules.{rules}
 use Rattle.search.proofs.rows.row_right.Given as goal
 
 abbrev pub invariant-loop-atom : goal.invariant-loop-atom

@@ -2,7 +2,6 @@
 use Prim.Native.Nat.{◌-◌}
 use native.Mathlib.Nat.{div-le_self}
 use native.Mathlib.Omega.{arith}
-use borrow.Author.Rules.{rules}
 use Rattle.search.proofs.spelled.front_number.Goals as goal
 
 pub returns : goal.returns

@@ -2,7 +2,6 @@
 use Prim.Native.Nat.{◌-◌, ◌%◌, ◌<◌}
 use native.Mathlib.Nat.{mod-lt}
 use native.Mathlib.Omega.{arith}
-use borrow.Author.Rules.{rules}
 use Rattle.search.proofs.spelled.last_letter.Goals as goal
 
 pub returns : goal.returns

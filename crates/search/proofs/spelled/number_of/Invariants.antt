@@ -1,7 +1,6 @@
 -- `search::spelled::number_of` is safe and ends: what is left of the word falls. Assumes nothing.
 use Prim.Native.Nat.{◌-◌}
 use lib.ListN.{length}
-use borrow.Author.Rules.{rules}
 use Rattle.search.proofs.spelled.number_of.Given as goal
 
 abbrev pub invariant-loop-i : goal.invariant-loop-i

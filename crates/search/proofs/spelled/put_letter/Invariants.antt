@@ -1,6 +1,5 @@
 -- `search::spelled::put_letter` is safe and ends: what is left of the variables falls. Assumes nothing.
 use Prim.Native.Nat.{◌-◌}
-use borrow.Author.Rules.{rules}
 use Rattle.search.proofs.spelled.put_letter.Given as goal
 
 abbrev pub invariant-loop-j : goal.invariant-loop-j

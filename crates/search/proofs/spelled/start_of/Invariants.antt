@@ -1,6 +1,5 @@
 -- `search::spelled::start_of` is safe and ends: a word has a larger number than its front. Assumes nothing.
 use Prim.Native.Nat.{◌≤◌}
-use borrow.Author.Rules.{rules}
 use Rattle.search.proofs.spelled.start_of.Given as goal
 
 abbrev pub invariant-loop-left : goal.invariant-loop-left

@@ -1,5 +1,4 @@
 -- `search::spelled::values_at` is safe and ends: a word has a larger number than its front. Assumes nothing.
-use borrow.Author.Rules.{rules}
 use Rattle.search.proofs.spelled.values_at.Given as goal
 
 abbrev pub invariant-loop-left : goal.invariant-loop-left

@@ -1,6 +1,5 @@
 -- `search::spelled::values_on` is safe and ends: what is left of the variables falls. Assumes nothing.
 use Prim.Native.Nat.{◌-◌}
-use borrow.Author.Rules.{rules}
 use Rattle.search.proofs.spelled.values_on.Given as goal
 
 abbrev pub invariant-loop-j : goal.invariant-loop-j

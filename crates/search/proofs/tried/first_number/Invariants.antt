@@ -1,6 +1,5 @@
 -- `search::tried::first_number` is safe and ends: what is left of the words falls. Assumes nothing.
 use Prim.Native.Nat.{◌-◌}
-use borrow.Author.Rules.{rules}
 use Rattle.search.proofs.tried.first_number.Given as goal
 
 abbrev pub invariant-loop-number : goal.invariant-loop-number

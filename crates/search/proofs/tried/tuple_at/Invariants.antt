@@ -1,6 +1,5 @@
 -- `search::tried::tuple_at` is safe and ends: what is left of the variables falls. Assumes nothing.
 use Prim.Native.Nat.{◌-◌}
-use borrow.Author.Rules.{rules}
 use Rattle.search.proofs.tried.tuple_at.Given as goal
 
 abbrev pub invariant-loop-j : goal.invariant-loop-j

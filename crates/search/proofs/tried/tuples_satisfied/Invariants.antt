@@ -1,6 +1,5 @@
 -- `search::tried::tuples_satisfied` is safe and ends: what is left of the tuples falls. Assumes nothing.
 use Prim.Native.Nat.{◌-◌}
-use borrow.Author.Rules.{rules}
 use Rattle.search.proofs.tried.tuples_satisfied.Given as goal
 
 abbrev pub invariant-loop-number : goal.invariant-loop-number
