@@ -75,7 +75,7 @@ def octets(text):
 
 
 def refusal(words):
-    return f"(refusal {words[0]} {words[1] if len(words) > 1 else 0})"
+    return f"(numbered_refusal {words[0]} {words[1] if len(words) > 1 else 0})"
 
 
 def line(words):
@@ -90,7 +90,7 @@ def line(words):
         should = f"written_in {room} {octets(rest[0])}" if said == "written" else f"unwritten {room} {refusal(rest)}"
     elif call == "judge":
         gives = f"judges {octets(words[1])} {joined(naturals(words[2]))}"
-        should = {"yes": "truth TruthAnswer.Yes", "no": "truth TruthAnswer.No"}.get(said) or f"truth (TruthAnswer.Refused {refusal(rest)})"
+        should = {"yes": "truth (Ok true)", "no": "truth (Ok false)"}.get(said) or f"truth (Err {refusal(rest)})"
     elif call == "decide":
         room = words[3]
         call = "decides_short" if said == "refused" else "decides"
@@ -107,27 +107,27 @@ def line(words):
         should = f"cells_in {cells} {rest[0]} {joined(naturals(rest[1]))}" if said == "built" else f"no_cells_in {cells} {rest[0]}"
     elif call == "record":
         gives = f"record_at {octets(words[1])} {words[2]}"
-        should = f"taken {words[2]} {rest[0]} {len(octets_of(rest[1]))} {rest[2]}" if said == "record" else f"RecordAnswer.Refused {refusal(rest)}"
+        should = f"taken {words[2]} {rest[0]} {len(octets_of(rest[1]))} {rest[2]}" if said == "record" else f"Err {refusal(rest)}"
     elif call == "decide_cells":
         gives = f"decided_cells {octets(words[1])} {words[2]} {words[3]} {words[4]}"
         answer, keys, path, word = {
-            "found": lambda: (f"(DecideAnswer.Found {rest[0]} {len(naturals(rest[1]))})", rest[3], rest[5], rest[1]),
-            "never": lambda: (f"(DecideAnswer.Never {rest[0]})", rest[2], rest[4], "-"),
-            "no-room": lambda: (f"(DecideAnswer.NoRoom {rest[0]})", rest[2], rest[4], "-"),
-            "refused": lambda: (f"(DecideAnswer.Refused {refusal(rest)})", "-", "-", "-"),
+            "found": lambda: (f"(Ok (Decision.Found {rest[0]} {len(naturals(rest[1]))}))", rest[3], rest[5], rest[1]),
+            "never": lambda: (f"(Ok (Decision.Never {rest[0]}))", rest[2], rest[4], "-"),
+            "no-room": lambda: (f"(Ok (Decision.NoRoom {rest[0]}))", rest[2], rest[4], "-"),
+            "refused": lambda: (f"(Err {refusal(rest)})", "-", "-", "-"),
         }[said]()
         should = f"decision_in {answer} {words[2]} {wholes(keys)} {words[3]} {joined(naturals(path))} {words[4]} {joined(naturals(word))}"
     elif call == "build_cells":
         gives = f"built_cells {octets(words[1])} {words[2]} {words[3]}"
         answer, keys, table = {
-            "built": lambda: (f"(BuildAnswer.Built {rest[0]})", rest[2], rest[4]),
-            "no-room": lambda: (f"(BuildAnswer.NoRoom {rest[0]})", rest[2], "-"),
-            "refused": lambda: (f"(BuildAnswer.Refused {refusal(rest)})", "-", "-"),
+            "built": lambda: (f"(Ok (Building.Built {rest[0]}))", rest[2], rest[4]),
+            "no-room": lambda: (f"(Ok (Building.NoRoom {rest[0]}))", rest[2], "-"),
+            "refused": lambda: (f"(Err {refusal(rest)})", "-", "-"),
         }[said]()
         should = f"table_in {answer} {words[2]} {wholes(keys)} {words[3]} {joined(naturals(table))}"
     else:
         gives = f"spells {words[1]} {words[2]} {joined(naturals(words[3]))}"
-        should = f"spelling (SpellAnswer.Value {rest[0]})" if said == "value" else f"spelling (SpellAnswer.Refused {refusal(rest)})"
+        should = f"spelling (Ok {rest[0]})" if said == "value" else f"spelling (Err {refusal(rest)})"
     return f"    {'pair' if words[0] in APART else 'line'} ({gives}) ({should}) ∷"
 
 
@@ -237,7 +237,7 @@ if __name__ == "__main__":
     with open(FILE, "w") as out:
         out.write(head + MARK)
         for call, lines in by_call.items():
-            kind = {"record": "Pair RecordAnswer", "decide_cells": "Pair Decided", "build_cells": "Pair Built"}.get(call)
+            kind = {"record": "Pair (Result Record Refusal)", "decide_cells": "Pair Decided", "build_cells": "Pair Built"}.get(call)
             lists = f"List ({kind})" if kind else "List Line"
             claim = f"all_in {call}_vectors ≡ all_wanted {call}_vectors" if kind else f"all_given {call}_vectors ≡ wanted {call}_vectors"
             out.write(f"\nabbrev {call}_vectors : {lists}\n{call}_vectors =\n" + "\n".join(lines) + "\n    []\n")

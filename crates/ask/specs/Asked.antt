@@ -1,12 +1,12 @@
 -- Document 01, the end of "Checked by hand": the asking program has room for 1,024 states, for any m, and 1,024 letters.
 use Rattle.std.specs.Prelude.{ℕ, ◌≤◌, ◌≡◌, List, length, take, replicate, ℤ, pos}
-use Rattle.scope.specs.Wire.{read_held}
+use Rattle.scope.specs.Wire.{read_held, question_held}
 use Rattle.scope.specs.Deciding.{Decided, decided}
 use Rattle.told.specs.Text.{text_of}
 
 -- the n of a question; 0 where it is refused
 unfoldable pub variables : List ℕ → ℕ
-variables bytes = (read_held bytes).question.n
+variables bytes = (question_held (read_held bytes)).n
 
 -- the areas that the program lends
 abbrev pub key_area : List ℤ

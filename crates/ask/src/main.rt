@@ -1,9 +1,9 @@
 // The asking program: reads a question from standard input, decides it and prints the answer. What is printed is told of the first 1,024 bytes.
 #![tactic(auto)]
 
-ghost use Rattle.std.specs.Prelude.{◌≤◌, length};
+ghost use Rattle.std.specs.Prelude.{◌≡◌, ◌≤◌, length};
 ghost use Rattle.told.specs.Text.{longest};
-ghost use Rattle.ask.specs.Asked.{Asked};
+ghost use Rattle.ask.specs.Asked.{Asked, variables};
 
 use scope::Question;
 use std::io;
@@ -24,6 +24,16 @@ const WORD: usize = 1_024;
 // Room for every text.
 const TEXT: usize = 4_352;
 
+// The n of a question; 0 where it is refused.
+fn variables(question: &[u8]) -> usize
+    ensures { result ≡ variables question.now }
+{
+    match reading::read(question) {
+        Ok(held) => usize::from(held.n),
+        Err(_) => 0,
+    }
+}
+
 // Puts the text of the answer to a question at the front of out, which has room for every text, and answers its length.
 fn answer_to(question: &[u8], out: &mut [u8]) -> usize
     requires { longest ≤ length out.old }
@@ -33,9 +43,7 @@ fn answer_to(question: &[u8], out: &mut [u8]) -> usize
     let mut path = [0u16; PATH];
     let mut word = [0u8; WORD];
     let answer = decide::decide(question, &mut keys, &mut path, &mut word);
-    let held = reading::read(question);
-    let question = held.question;
-    told::tell(question.n as usize, answer, &word, out)
+    told::tell(variables(question), answer, &word, out)
 }
 
 fn main(rt: HostRuntime) -> io::Result<()> {

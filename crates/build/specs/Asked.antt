@@ -1,16 +1,14 @@
 -- Building a question: its start is row 0, the machine of key rows does what the question's does, and so what is left is document 01's.
-use Rattle.std.specs.Prelude.{◌≡◌, Bool, true, false, ℕ, ◌+◌, ◌*◌, ◌/◌, ◌^◌, ◌≤◌, ◌<◌, min, length, take, leb, ℤ}
+use Rattle.std.specs.Prelude.{◌≡◌, Bool, true, false, ℕ, ◌+◌, ◌*◌, ◌/◌, ◌^◌, ◌≤◌, ◌<◌, min, length, take, leb, ℤ, Ok, Err, Result, is_ok}
 use Rattle.std.proofs.Math.Path.{refl, ap, subst}
 use Rattle.std.proofs.Common.{sym, ◌∙◌, true≢false, mul-le-mul_right, div-mul-le_self, arith, length-take, length-take-le}
 use mathlib.Core.List.{List, []}
 use Rattle.std.proofs.Math.Nat.{zero-mul, zero-add}
 use Rattle.std.proofs.Math.Seq.{take-length, paste}
+use Rattle.scope.specs.declared.Building.{Building}
 use Rattle.scope.specs.declared.Question.{Question}
 use Rattle.scope.specs.declared.Refusal.{Refusal}
-use Rattle.scope.specs.declared.ReadAnswer.{ReadAnswer}
-use Rattle.scope.specs.declared.Held.{Held}
-use Rattle.scope.specs.declared.BuildAnswer.{BuildAnswer}
-use Rattle.scope.specs.Wire.{read_held}
+use Rattle.scope.specs.Wire.{read_held, question_held}
 use Rattle.scope.specs.Whole.{joined, at_front}
 use Rattle.scope.specs.Question.{atoms_of, atom_count}
 use Rattle.scope.specs.States.{State, cells_of, start_of}
@@ -180,7 +178,7 @@ module _ {q : Question} {atoms : Kinds} {rows : ℕ} {keys : List ℤ} {table : 
         table_room = table_room;
       }
 
-      pub question_built : {answer : BuildAnswer} {keys₂ : List ℤ} {table₂ : List ℕ}
+      pub question_built : {answer : Result Building Refusal} {keys₂ : List ℤ} {table₂ : List ℕ}
           → Builds (filled (machine plan sums keys₁) plan.rows keys₁ table) answer keys₂ table₂ → Builds (built_question q keys table) answer keys₂ table₂
       unfolding built_question
       question_built {answer} {keys₂} {table₂} b =
@@ -192,21 +190,22 @@ module _ {q : Question} {atoms : Kinds} {rows : ℕ} {keys : List ℤ} {table : 
 
 -- where no row is lent, nothing changes
 pub nothing_built : (q : Question) (keys : List ℤ) (table : List ℕ) → 0 ≡ build_room q keys table
-    → Builds (built_question q keys table) (BuildAnswer.NoRoom 0) keys table
+    → Builds (built_question q keys table) (Ok (Building.NoRoom 0)) keys table
 unfolding built_question key_cells joined at_front
 nothing_built q keys table is = rw (← is, without_room q 0 keys table (no_rows_more (machine_of q))) record { answer = refl; keys = refl; table = refl }
 
 -- ---- from the bytes
 
-module _ (bytes : List ℕ) (keys : List ℤ) (table : List ℕ) {h : Held} (is : h ≡ read_held bytes) where
-  pub refused_built : {r : Refusal} → h.answer ≡ ReadAnswer.Refused r → Builds (built bytes keys table) (BuildAnswer.Refused r) keys table
+module _ (bytes : List ℕ) (keys : List ℤ) (table : List ℕ) where
+  pub refused_built : {r : Refusal} → read_held bytes ≡ Err r → Builds (built bytes keys table) (Err r) keys table
   unfolding built
-  refused_built e = rw (← is, e) record { answer = refl; keys = refl; table = refl }
+  refused_built e = rw e record { answer = refl; keys = refl; table = refl }
 
-  pub accepted_limits : h.answer ≡ ReadAnswer.Accepted → WithinLimits h.question
-  accepted_limits e = rw is (accepted_within bytes (rw is at e))
+  module _ {q : Question} (accepted : read_held bytes ≡ Ok q) where
+    pub accepted_limits : WithinLimits q
+    accepted_limits = subst (λ (a : Result Question Refusal). WithinLimits (question_held a)) accepted (accepted_within bytes (ap is_ok accepted))
 
-  pub accepted_built : h.answer ≡ ReadAnswer.Accepted → {answer : BuildAnswer} {keys₁ : List ℤ} {table₁ : List ℕ}
-      → Builds (built_question h.question keys table) answer keys₁ table₁ → Builds (built bytes keys table) answer keys₁ table₁
-  unfolding built
-  accepted_built e b = rw (← is, e) b
+    pub accepted_built : {answer : Result Building Refusal} {keys₁ : List ℤ} {table₁ : List ℕ}
+        → Builds (built_question q keys table) answer keys₁ table₁ → Builds (built bytes keys table) answer keys₁ table₁
+    unfolding built
+    accepted_built b = rw accepted b

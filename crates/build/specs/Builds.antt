@@ -1,12 +1,13 @@
 -- What building leaves: the answer and each lent area afterwards. Of a machine of key rows, numbered in so many rows; and how that follows
 -- from the way in which numbering ended.
-use Rattle.std.specs.Prelude.{◌≡◌, refl, Bool, true, false, List, ℕ, ◌*◌, ◌≤◌, ◌<◌, take, leb, ℤ}
+use Rattle.std.specs.Prelude.{◌≡◌, refl, Bool, true, false, List, ℕ, ◌*◌, ◌≤◌, ◌<◌, take, leb, ℤ, Ok, Result}
 use Rattle.std.proofs.Math.Path.{sym, ap}
 use Rattle.std.proofs.Common.{◌∙◌, le_refl, mul-le-mul_right, arith, leb→le}
 use Rattle.std.proofs.Math.Option.{none}
 use Rattle.std.proofs.Math.Nat.{zero-mul}
 use Rattle.std.proofs.Math.ListN.{length}
-use Rattle.scope.specs.declared.BuildAnswer.{BuildAnswer}
+use Rattle.scope.specs.declared.Refusal.{Refusal}
+use Rattle.scope.specs.declared.Building.{Building}
 use Rattle.scope.specs.Whole.{at_front}
 use Rattle.scope.specs.Numbering.{Machine, Row, Rows, start_row, numbered}
 use Rattle.scope.specs.Deciding.{Verdict, verdict_by, counted}
@@ -25,7 +26,7 @@ use Rattle.explore.specs.Stages.{start_stands}
 use Rattle.table.specs.Tabling.{AllThere, Tabling, state_is}
 use Rattle.table.specs.Table.{table_after}
 
-pub record Builds (b : Built) (answer₁ : BuildAnswer) (keys₁ : List ℤ) (table₁ : List ℕ) : Type 0 where
+pub record Builds (b : Built) (answer₁ : Result Building Refusal) (keys₁ : List ℤ) (table₁ : List ℕ) : Type 0 where
   pub answer : answer₁ ≡ b.answer
   pub keys : keys₁ ≡ b.keys
   pub table : table₁ ≡ b.table
@@ -34,12 +35,12 @@ pub record Builds (b : Built) (answer₁ : BuildAnswer) (keys₁ : List ℤ) (ta
 
 abbrev pub filled_if : Bool → ℕ → Machine (List ℤ) → Rows (List ℤ) → List ℤ → List ℕ → Built
 filled_if true r M l keys table = record {
-  answer = BuildAnswer.Built (length l);
+  answer = Ok (Building.Built (length l));
   keys = at_front (row_cells l) keys;
   table = at_front (table_cells M l) table;
 }
 filled_if false r M l keys table = record {
-  answer = BuildAnswer.NoRoom r;
+  answer = Ok (Building.NoRoom r);
   keys = at_front (row_cells (take r l)) keys;
   table = table;
 }
@@ -86,16 +87,16 @@ module _ {M : Machine (List ℤ)} {plan : Plan} {keys₀ keys : List ℤ} {path�
       go false e a = absurd (let z : ◌≡◌ {A = ℕ} 0 1 = cc in omega arith)
 
   pub no_room_lem : (table : List ℕ) → Numbered M plan keys₀ path₀ keys path (Explored.NoRoom states)
-      → Builds (filled M plan.rows keys₀ table) (BuildAnswer.NoRoom states) keys table
+      → Builds (filled M plan.rows keys₀ table) (Ok (Building.NoRoom states)) keys table
   no_room_lem table n = go (leb (length (numbered M plan.rows)) plan.rows) refl (told untested n)
     where
       go : (b : Bool) → leb (length (numbered M plan.rows)) plan.rows ≡ b
           → Explored.NoRoom states ≡ explored_as M (verdict_by none b) plan.rows (numbered M plan.rows)
-          → Builds (filled M plan.rows keys₀ table) (BuildAnswer.NoRoom states) keys table
+          → Builds (filled M plan.rows keys₀ table) (Ok (Building.NoRoom states)) keys table
       go true e a = absurd (let z : ◌≡◌ {A = ℕ} 0 1 = cc in omega arith)
       go false e a =
           let s : states ≡ plan.rows = cc in
-          rw e (record { answer = ap BuildAnswer.NoRoom s; keys = rw e at (keys_left untested n); table = refl })
+          rw e (record { answer = ap (λ (n : ℕ). Ok (Building.NoRoom n)) s; keys = rw e at (keys_left untested n); table = refl })
 
 -- ---- every row is there: what writing the table asks, and the whole once it is written
 
@@ -154,9 +155,9 @@ module _ {plan : Plan} {sums : List ℤ} (task : Task plan sums) {keys₀ : List
   tabling = record { task = task; there = rw same_start there }
 
   pub all_built : (table : List ℕ) {table₁ : List ℕ} → table₁ ≡ table_after plan sums keys states table
-      → Builds (filled (machine plan sums keys₀) plan.rows keys₀ table) (BuildAnswer.Built states) keys table₁
+      → Builds (filled (machine plan sums keys₀) plan.rows keys₀ table) (Ok (Building.Built states)) keys table₁
   all_built table e = rw all.fit (record {
-    answer = ap BuildAnswer.Built all.states_are;
+    answer = ap (λ (n : ℕ). Ok (Building.Built n)) all.states_are;
     keys = all.keys_are;
     table = e ∙ rw (same_start, same_rows);
   })

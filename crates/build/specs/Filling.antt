@@ -1,11 +1,13 @@
 -- Filling the areas: numbering with so many rows, and the table written where every state has one; a first time with few rows, and where these
 -- are full on with all.
-use Rattle.std.specs.Prelude.{◌≡◌, refl, Bool, true, false, cond, List, ℕ, ◌+◌, ◌*◌, ◌≤◌, ◌<◌, length, get_or, take, ℤ, pos}
+use Rattle.std.specs.Prelude.{◌≡◌, refl, Bool, false, Result, Ok, Err, List, ℕ, ◌+◌, ◌*◌, ◌≤◌, ◌<◌, length, get_or, take, ℤ, pos}
 use Rattle.std.proofs.Common.{sym, ap, ◌∙◌, subst, true≢false, le_refl, mul-le-mul_right, arith, get_or-take}
-use Rattle.scope.specs.declared.BuildAnswer.{BuildAnswer}
+use Rattle.scope.specs.declared.Building.{Building}
 use Rattle.scope.specs.Numbering.{Machine}
 use Rattle.plan.specs.declared.Plan.{Plan}
 use Rattle.plan.specs.declared.Stand.{Stand}
+use Rattle.plan.specs.declared.Stop.{Stop}
+use Rattle.plan.specs.declared.Stop.TheVariants.{Found, Full}
 use Rattle.plan.specs.Machine.{machine, Task, Runs, machine_runs}
 use Rattle.plan.specs.Moves.{with_rows, going_at, explored_by}
 use Rattle.explore.specs.Areas.{path_count}
@@ -25,14 +27,20 @@ pub record Filling (plan : Plan) (sums keys : List ℤ) (path table : List ℕ) 
   pub ready : Ready (machine plan sums keys) plan keys path
   pub table_room : plan.rows * (1 + plan.letters) ≤ length table
 
--- numbering has ended, and the table is as it was where it has stopped, and else written
-pub record FilledFrom (plan : Plan) (sums : List ℤ) (count₀ : ℕ) (keys₀ : List ℤ) (path₀ table₀ : List ℕ) (keys : List ℤ) (path table : List ℕ) (s : Stand) : Type 0 where
-  pub ended : ExploringEnded (machine plan sums keys₀) plan count₀ keys₀ path₀ keys path s
-  pub table_is : table ≡ cond s.stopped table₀ (table_after plan sums keys s.count table₀)
+-- the table is as it was where numbering has stopped, and else written
+abbrev pub table_by : Plan → List ℤ → List ℤ → List ℕ → Result Stand Stop → List ℕ
+table_by plan sums keys table (Ok s) = table_after plan sums keys s.count table
+table_by plan sums keys table (Err o) = table
 
-abbrev pub built_answer : Bool → ℕ → BuildAnswer
-built_answer true count = BuildAnswer.NoRoom count
-built_answer false count = BuildAnswer.Built count
+-- numbering has ended, and the table is as it was or written
+pub record FilledFrom (plan : Plan) (sums : List ℤ) (count₀ : ℕ) (keys₀ : List ℤ) (path₀ table₀ : List ℕ) (keys : List ℤ) (path table : List ℕ) (r : Result Stand Stop) : Type 0 where
+  pub ended : ExploringEnded (machine plan sums keys₀) plan count₀ keys₀ path₀ keys path r
+  pub table_is : table ≡ table_by plan sums keys table₀ r
+
+abbrev pub built_answer : Result Stand Stop → Building
+built_answer (Ok s) = Building.Built s.count
+built_answer (Err (Found s)) = Building.NoRoom s.count
+built_answer (Err (Full s)) = Building.NoRoom s.count
 
 -- where nothing is noted, any path area has room
 pub path_fits : {noting : Bool} → noting ≡ false → (rows : ℕ) (path : List ℕ) → path_count noting rows ≤ length path
@@ -72,18 +80,17 @@ module _ {plan : Plan} {sums keys : List ℤ} {path table : List ℕ} (f : Filli
   }
 
   -- numbering has ended with so few of the rows, and for want of rows only where they are all
-  ended_by : {few count₀ : ℕ} {keys₁ : List ℤ} {path₁ : List ℕ} {s : Stand} → few ≤ plan.rows → length keys₁ ≡ length keys
-      → ExploringEnded M (with_rows plan few) count₀ keys path keys₁ path₁ s → (s.stopped ≡ true → s.accepted ≡ false → few ≡ plan.rows)
-      → Numbered M plan keys path keys₁ path₁ (explored_by s.stopped s.accepted s)
+  ended_by : {few count₀ : ℕ} {keys₁ : List ℤ} {path₁ : List ℕ} {r : Result Stand Stop} → few ≤ plan.rows → length keys₁ ≡ length keys
+      → ExploringEnded M (with_rows plan few) count₀ keys path keys₁ path₁ r → ((s : Stand) → r ≡ Err (Full s) → few ≡ plan.rows)
+      → Numbered M plan keys path keys₁ path₁ (explored_by r)
   ended_by less same e whole = ended_numbered M run.lawful plan keys path (lent_after same) less e whole
 
   -- where every state has a row, the table can be written
-  module _ {count₀ : ℕ} {keys₁ : List ℤ} {path₁ : List ℕ} {s : Stand} (e : ExploringEnded (machine plan sums keys) plan count₀ keys path keys₁ path₁ s)
-      (same : length keys₁ ≡ length keys) (going : s.stopped ≡ false) where
+  module _ {count₀ : ℕ} {keys₁ : List ℤ} {path₁ : List ℕ} {s : Stand} (e : ExploringEnded (machine plan sums keys) plan count₀ keys path keys₁ path₁ (Ok s))
+      (same : length keys₁ ≡ length keys) where
     all : AllRows M plan.rows keys keys₁ s.count
     all =
-        all_rows f.tests_none
-        (subst (λ (b : Bool). Numbered M plan keys path keys₁ path₁ (explored_by b s.accepted s)) going (ended_by (le_refl plan.rows) same e (λ _ _. refl)))
+        all_rows f.tests_none (ended_by (le_refl plan.rows) same e (λ _ _. refl))
 
     pub rows_tabled : Tabling plan sums keys₁ s.count
     rows_tabled = tabling f.task f.ready all
@@ -92,11 +99,11 @@ module _ {plan : Plan} {sums keys : List ℤ} {path table : List ℕ} (f : Filli
     rows_fit = table_fits_lem f.task f.ready all (1 + plan.letters) (length table) f.table_room
 
   -- the whole, by how numbering ended
-  written : (b c : Bool) (s : Stand) {keys₁ : List ℤ} {path₁ table₁ : List ℕ} → Numbered M plan keys path keys₁ path₁ (explored_by b c s)
-      → table₁ ≡ cond b table (table_after plan sums keys₁ s.count table) → Builds (filled M plan.rows keys table) (built_answer b s.count) keys₁ table₁
-  written false c s n t = all_built f.task f.ready (all_rows f.tests_none n) table t
-  written true true s n t = absurd (building_finds_none f.tests_none n)
-  written true false s n t = rw t (no_room_lem f.tests_none table n)
+  written : (r : Result Stand Stop) {keys₁ : List ℤ} {path₁ table₁ : List ℕ} → Numbered M plan keys path keys₁ path₁ (explored_by r)
+      → table₁ ≡ table_by plan sums keys₁ table r → Builds (filled M plan.rows keys table) (Ok (built_answer r)) keys₁ table₁
+  written (Ok s) n t = all_built f.task f.ready (all_rows f.tests_none n) table t
+  written (Err (Found s)) n t = absurd (building_finds_none f.tests_none n)
+  written (Err (Full s)) n t = rw t (no_room_lem f.tests_none table n)
 
   -- ---- few rows first
 
@@ -116,24 +123,24 @@ module _ {plan : Plan} {sums keys : List ℤ} {path table : List ℕ} (f : Filli
       table_room = omega (arith, mul-le-mul_right (1 + plan.letters) less, f.table_room);
     }
 
-    module _ {keys₁ : List ℤ} {path₁ table₁ : List ℕ} {s : Stand} (e : FilledFrom (with_rows plan few) sums 1 keys path table keys₁ path₁ table₁ s)
+    module _ {keys₁ : List ℤ} {path₁ table₁ : List ℕ} {r : Result Stand Stop} (e : FilledFrom (with_rows plan few) sums 1 keys path table keys₁ path₁ table₁ r)
         (same : length keys₁ ≡ length keys) where
       -- they are enough
-      pub few_built : (s.stopped ≡ true → s.accepted ≡ false → plan.rows ≤ few)
-          → Builds (filled (machine plan sums keys) plan.rows keys table) (built_answer s.stopped s.count) keys₁ table₁
+      pub few_built : ((s : Stand) → r ≡ Err (Full s) → plan.rows ≤ few)
+          → Builds (filled (machine plan sums keys) plan.rows keys table) (Ok (built_answer r)) keys₁ table₁
       few_built enough =
-          written s.stopped s.accepted s (ended_by less same e.ended (λ p q. let h = enough p q in omega (arith, h))) e.table_is
+          written r (ended_by less same e.ended (λ s q. let h = enough s q in omega (arith, h))) e.table_is
 
       -- they are full, and it goes on with all
-      module _ (stopped : s.stopped ≡ true) (refused : s.accepted ≡ false) where
+      module _ {s : Stand} (stopped : r ≡ Err (Full s)) where
         full : Stands M (with_rows plan few) keys₁ path₁ s
-        full = (stopped_full plan e.ended stopped refused).stands
+        full = (stopped_full plan e.ended stopped).stands
 
         same_start : take plan.width keys₁ ≡ take plan.width keys
         same_start = full.rows_there.start_is ∙ run.start_is
 
         same_table : table₁ ≡ table
-        same_table = e.table_is ∙ ap (λ (b : Bool). cond b table (table_after plan sums keys₁ s.count table)) stopped
+        same_table = e.table_is ∙ ap (table_by plan sums keys₁ table) stopped
 
         pub many_filling : Filling plan sums keys₁ path₁ table₁
         many_filling = record {
@@ -155,12 +162,12 @@ module _ {plan : Plan} {sums keys : List ℤ} {path table : List ℕ} (f : Filli
           table_room = rw same_table f.table_room;
         }
 
-        pub many_stands : Stands (machine plan sums keys₁) plan keys₁ path₁ (going_at s.count s.row s.letter)
+        pub many_stands : Stands (machine plan sums keys₁) plan keys₁ path₁ s
         many_stands = rw same_start (more_stands less (lent_after same) full)
 
-        pub many_built : {keys₂ : List ℤ} {path₂ table₂ : List ℕ} {t : Stand} → FilledFrom plan sums s.count keys₁ path₁ table₁ keys₂ path₂ table₂ t
-            → length keys₂ ≡ length keys₁ → Builds (filled (machine plan sums keys) plan.rows keys table) (built_answer t.stopped t.count) keys₂ table₂
+        pub many_built : {keys₂ : List ℤ} {path₂ table₂ : List ℕ} {t : Result Stand Stop} → FilledFrom plan sums s.count keys₁ path₁ table₁ keys₂ path₂ table₂ t
+            → length keys₂ ≡ length keys₁ → Builds (filled (machine plan sums keys) plan.rows keys table) (Ok (built_answer t)) keys₂ table₂
         many_built {t = t} g kept =
-            written t.stopped t.accepted t
-            (ended_by (le_refl plan.rows) (kept ∙ same) (ended_after plan e.ended (rw same_start at g.ended)) (λ _ _. refl))
+            written t
+            (ended_by (le_refl plan.rows) (kept ∙ same) (ended_after plan e.ended stopped (rw same_start at g.ended)) (λ _ _. refl))
             (rw same_table at g.table_is)

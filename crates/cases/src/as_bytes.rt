@@ -1,30 +1,25 @@
 // Questions as bytes.
-use compared::buffers::same_question;
-use scope::{Question, ReadAnswer, WriteAnswer};
+use compared::buffers::{first, same_question};
+use scope::{Question, Refusal, Rule};
 
-// Writes a question, and answers how many bytes it has.
-pub fn written(question: Question, bytes: &mut [u8]) -> usize {
-    match writing::write(question, bytes) {
-        WriteAnswer::Written(n) => n,
-        WriteAnswer::Refused(_) => 0,
+// The bytes of a question, in the room lent for them; none where it is refused.
+pub fn written<'a>(question: &Question, room: &'a mut [u8]) -> &'a [u8] {
+    let n = writing::write(question, room).unwrap_or(0);
+    first(room, n)
+}
+
+pub fn reads_back(bytes: &[u8], question: &Question) -> bool {
+    match reading::read(bytes) {
+        Ok(held) => same_question(question, &held),
+        Err(_) => false,
     }
 }
 
-pub fn reads_back(bytes: &[u8], question: Question) -> bool {
-    let held = reading::read(bytes);
-    let answer = held.answer;
-    match answer {
-        ReadAnswer::Accepted => same_question(question, held.question),
-        ReadAnswer::Refused(_) => false,
-    }
+// What every call says of no bytes: that they end at 0.
+pub fn ended() -> Refusal {
+    Rule::BytesEnd.at(0)
 }
 
-// Whether reading says of no bytes that they end at 0.
 pub fn read_none() -> bool {
-    let held = reading::read(b"");
-    let answer = held.answer;
-    match answer {
-        ReadAnswer::Accepted => false,
-        ReadAnswer::Refused(refusal) => refusal.number == 1 && refusal.place == 0,
-    }
+    reading::read(b"").err() == Some(ended())
 }

@@ -1,115 +1,126 @@
 // Building beside what deciding told, row by row, and again in fewer rows.
 use crate::running::{LONG_WORDS, SHORT_WORDS, run_long, run_short, run_word};
-use crate::tally::where_right;
-use compared::asked::{BUILT, FOUND, NEVER, NO_ROOM, Told, built, built_in, same_told, tell};
-use compared::buffers::{CELL_MARK, KEY_MARK, cells_of, first_cells, front_cells, front_keys};
+use crate::tally::{Kind, where_right};
+use compared::asked::{Fault, built, built_in, states_built};
+use compared::buffers::{CELL_MARK, KEY_MARK, cells_of, first, front_rows};
+use scope::{Building, Decision};
 use search::bound::bound_of;
 use search::cells::look_table;
+use search::chance::Chance;
 use search::edges::{KEYS, ROWS, TABLE};
-use search::plain::plus;
-use search::sheet::{SHEET, atoms, letters};
-
-const LENT: u64 = ROWS as u64;
+use search::sheet::Sheet;
 
 // The cells of a table's row.
-fn width_of(q: &[u64; SHEET]) -> usize {
-    letters(q) as usize + 1
+fn width_of(q: &Sheet) -> usize {
+    q.letters() + 1
 }
 
 // What building makes in so many rows of a marked table.
-fn made_in(q: &[u64; SHEET], bytes: &[u8], rows: usize, table: &mut [u16]) -> Told {
-    built_in(bytes, atoms(q), width_of(q), rows, table)
+fn made_in(q: &Sheet, bytes: &[u8], rows: usize, table: &mut [u16]) -> Result<Building, Fault> {
+    built_in(bytes, q.m, width_of(q), rows, table)
 }
 
-fn made_by(q: &[u64; SHEET], bytes: &[u8], rows: usize) -> Told {
+fn made_by(q: &Sheet, bytes: &[u8], rows: usize) -> Result<Building, Fault> {
     let mut table = [CELL_MARK; TABLE];
     made_in(q, bytes, rows, &mut table)
 }
 
 // How many rows of a table that is built are right.
-fn rows_right(q: &[u64; SHEET], bytes: &[u8]) -> u64 {
-    let m = atoms(q);
+fn rows_right(q: &Sheet, bytes: &[u8]) -> Option<usize> {
     let width = width_of(q);
     let mut keys = [KEY_MARK; KEYS];
     let mut table = [CELL_MARK; TABLE];
-    let lent = front_keys(&mut keys, cells_of(ROWS, m));
     let made = built(
         bytes,
-        m,
+        q.m,
         width,
-        lent,
-        front_cells(&mut table, cells_of(ROWS, width)),
+        front_rows(&mut keys, ROWS, q.m),
+        front_rows(&mut table, ROWS, width),
     );
-    look_table(q, &keys, &table, made.states)
+    look_table(q, &keys, &table, states_built(&made))
 }
 
 // Whether the states built fit what deciding told: as many where nothing satisfies, and at least as many where a word is found.
-fn fits(made: Told, told: Told, bound: u64) -> bool {
-    let states = made.states;
-    let verdict = told.verdict;
-    let count = states as u64;
-    if made.verdict == NO_ROOM {
-        return (count == LENT) & (LENT < bound) & (verdict != NEVER);
+fn fits(made: Result<Building, Fault>, told: Result<Decision, Fault>, bound: u64) -> bool {
+    match (made, told) {
+        (Ok(Building::NoRoom { .. }), Ok(Decision::Never { .. })) => false,
+        (Ok(Building::NoRoom { states }), _) => states == ROWS && (ROWS as u64) < bound,
+        (Ok(Building::Built { states }), Ok(Decision::Found { states: least, .. })) => {
+            states as u64 <= bound && least <= states
+        }
+        (Ok(Building::Built { states }), Ok(Decision::Never { states: all })) => {
+            states as u64 <= bound && states == all
+        }
+        _ => false,
     }
-    let found = (verdict == FOUND) & (told.states <= states);
-    (count <= bound) & (found | ((verdict == NEVER) & (told.states == states)))
-}
-
-fn less(x: usize) -> usize {
-    if 0 < x { x - 1 } else { 0 }
 }
 
 // Whether building in the states made and in one less makes what follows.
-fn same_again(q: &[u64; SHEET], bytes: &[u8], made: Told) -> bool {
-    let states = made.states;
-    if made.verdict != BUILT {
-        return made.verdict == NO_ROOM;
+fn same_again(q: &Sheet, bytes: &[u8], made: Result<Building, Fault>) -> bool {
+    match made {
+        Ok(Building::NoRoom { .. }) => true,
+        Ok(Building::Built { states }) => {
+            let fewer = states.saturating_sub(1);
+            made_by(q, bytes, states) == made
+                && made_by(q, bytes, fewer) == Ok(Building::NoRoom { states: fewer })
+        }
+        Err(_) => false,
     }
-    let fewer = less(states);
-    same_told(made_by(q, bytes, states), made)
-        & same_told(made_by(q, bytes, fewer), tell(NO_ROOM, fewer, 0))
 }
 
-fn right_amount(q: &[u64; SHEET], bytes: &[u8], told: Told, made: Told) -> u64 {
+fn right_amount(
+    q: &Sheet,
+    bytes: &[u8],
+    told: Result<Decision, Fault>,
+    made: Result<Building, Fault>,
+) -> Option<usize> {
     where_right(
-        fits(made, told, bound_of(q)) & same_again(q, bytes, made),
+        fits(made, told, bound_of(q)) && same_again(q, bytes, made),
         1,
     )
 }
 
-// Whether a table says of the word found that it satisfies.
-fn found_amount(q: &[u64; SHEET], table: &[u16], told: Told, found: &[u8]) -> u64 {
-    where_right(
-        (told.verdict != FOUND) | (run_word(q, table, found) == 1),
-        0,
-    )
-}
-
-// What is counted of a table's words, of those that satisfy, and the next seed.
-fn run_amounts(q: &[u64; SHEET], table: &[u16], told: Told, found: &[u8], seed: u64) -> [u64; 3] {
-    let long = run_long(q, table, seed);
-    let words = plus(
-        SHORT_WORDS + LONG_WORDS,
-        found_amount(q, table, told, found),
-    );
-    [words, plus(run_short(q, table), long[0]), long[1]]
-}
-
-// What is counted of building, from tables built to words run that satisfy, and the next seed.
-pub fn built_amounts(
-    q: &[u64; SHEET],
-    bytes: &[u8],
-    told: Told,
+// How many words are run, where a table says of the word found that it satisfies.
+fn words_run(
+    q: &Sheet,
+    table: &[u16],
+    told: Result<Decision, Fault>,
     found: &[u8],
-    seed: u64,
-) -> [u64; 6] {
+) -> Option<usize> {
+    let met = match told {
+        Ok(Decision::Found { .. }) => run_word(q, table, found) == Some(true),
+        _ => true,
+    };
+    where_right(met, SHORT_WORDS as usize + LONG_WORDS)
+}
+
+// What is counted of building, from tables built to words run that satisfy.
+pub fn built_amounts(
+    q: &Sheet,
+    bytes: &[u8],
+    told: Result<Decision, Fault>,
+    found: &[u8],
+    chance: &mut Chance,
+) -> [(Kind, Option<usize>); 4] {
     let mut table = [CELL_MARK; TABLE];
     let made = made_in(q, bytes, ROWS, &mut table);
     let right = right_amount(q, bytes, told, made);
-    if made.verdict != BUILT {
-        return [0, right, 0, 0, 0, seed];
-    }
-    let cells = first_cells(&table, cells_of(made.states, width_of(q)));
-    let runs = run_amounts(q, cells, told, found, seed);
-    [right, 0, rows_right(q, bytes), runs[0], runs[1], runs[2]]
+    let Ok(Building::Built { states }) = made else {
+        let none = (Kind::NotBuilt, Some(0));
+        return [(Kind::NotBuilt, right), none, none, none];
+    };
+    let cells = first(&table, cells_of(states, width_of(q)).unwrap_or(0));
+    let short = run_short(q, cells);
+    let long = run_long(q, cells, chance);
+    [
+        (Kind::Built, right),
+        (Kind::TableRows, rows_right(q, bytes)),
+        (Kind::Run, words_run(q, cells, told, found)),
+        (
+            Kind::RunMet,
+            short
+                .zip(long)
+                .map(|(short, long)| short.saturating_add(long)),
+        ),
+    ]
 }

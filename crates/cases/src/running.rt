@@ -1,70 +1,48 @@
 // A built table run on words, short ones in their order and long ones by chance, beside what the words spell.
-use crate::tally::where_right;
-use compared::buffers::stretch;
-use scope::TruthAnswer;
-use search::chance::after;
-use search::drawn::{after_word, draw_word, long_of};
+use search::chance::Chance;
+use search::drawn::{Drawing, LONG, draw_word};
 use search::pieces::word_satisfies;
-use search::plain::plus;
-use search::sheet::{SHEET, letters, variables};
-use search::spelled::{SHORT, start_of, word_at};
+use search::sheet::Sheet;
+use search::spelled::Short;
 
 // The short words run, and the long ones.
 pub const SHORT_WORDS: u64 = 70;
 
-pub const LONG_WORDS: u64 = 8;
+const TIMES: usize = 2;
 
-// Whether a table says of a word what is said here.
-fn table_says(n: usize, table: &[u16], word: &[u8], yes: bool) -> bool {
-    match words::run(n, table, word) {
-        TruthAnswer::Yes => yes,
-        TruthAnswer::No => !yes,
-        TruthAnswer::Refused(_) => false,
-    }
-}
+pub const LONG_WORDS: usize = TIMES * Drawing::ALL.len();
 
-// Runs a table on a word: 1 where the word satisfies and 0 where not, where the table says so.
-pub fn run_word(q: &[u64; SHEET], table: &[u16], word: &[u8]) -> u64 {
+// Runs a table on a word: whether it satisfies, where the table says so.
+pub fn run_word(q: &Sheet, table: &[u16], word: &[u8]) -> Option<bool> {
     let yes = word_satisfies(q, word);
-    let amount = if yes { 1 } else { 0 };
-    where_right(table_says(variables(q), table, word, yes), amount)
-}
-
-fn run_numbered(q: &[u64; SHEET], table: &[u16], number: u64) -> u64 {
-    let word = word_at(number, letters(q));
-    run_word(
-        q,
-        table,
-        stretch(&word, start_of(number, letters(q)), SHORT),
-    )
+    words::run(q.variables, table, word)
+        .ok()
+        .filter(|said| *said == yes)
 }
 
 // How many of the short words satisfy.
-pub fn run_short(q: &[u64; SHEET], table: &[u16]) -> u64 {
-    let mut all = 0;
-    let mut number = 0;
-    while number < SHORT_WORDS {
-        all = plus(all, run_numbered(q, table, number));
-        number += 1;
+pub fn run_short(q: &Sheet, table: &[u16]) -> Option<usize> {
+    let mut all: usize = 0;
+    for number in 0..SHORT_WORDS {
+        let word = Short::numbered(number, q.letters());
+        all = all.saturating_add(usize::from(run_word(q, table, word.as_slice())?));
     }
-    all
+    Some(all)
 }
 
-fn run_drawn(q: &[u64; SHEET], table: &[u16], kind: u64, first: u64) -> u64 {
-    let word = draw_word(kind, letters(q), first);
-    run_word(q, table, stretch(&word, 0, long_of(first)))
-}
-
-// How many of the long words satisfy, and the next seed.
-pub fn run_long(q: &[u64; SHEET], table: &[u16], first: u64) -> [u64; 2] {
-    let mut all = 0;
-    let mut seed = first;
-    let mut number = 0;
-    while number < LONG_WORDS {
-        let drawn = after(seed);
-        all = plus(all, run_drawn(q, table, number % 4, drawn));
-        seed = after_word(drawn);
-        number += 1;
+// How many of the long words satisfy.
+pub fn run_long(q: &Sheet, table: &[u16], chance: &mut Chance) -> Option<usize> {
+    let mut right = true;
+    let mut all: usize = 0;
+    for _ in 0..TIMES {
+        for drawing in Drawing::ALL {
+            let mut room = [0u8; LONG];
+            let word = draw_word(drawing, q.letters(), chance, &mut room);
+            match run_word(q, table, word) {
+                Some(yes) => all = all.saturating_add(usize::from(yes)),
+                None => right = false,
+            }
+        }
     }
-    [all, seed]
+    if right { Some(all) } else { None }
 }

@@ -1,95 +1,132 @@
-// What is counted, and what is said where something differs. What is looked at is a count, or wrong where it differs.
-ghost use Rattle.std.specs.Prelude.{◌≤◌};
-
-use compared::text::word;
-use search::cells::WRONG;
-use search::plain::plus;
-use std::io;
+// What is counted, and what is said where something differs. What is looked at is a count, or none where it differs.
 use std::io::Write;
+use std::{fmt, io};
 
-// The kinds that are named here: questions read back; from deciding's verdicts by their numbers to first words; from built to words run
-// that satisfy; and tuples judged.
-pub const QUESTIONS: usize = 0;
-
-pub const DECIDED: usize = 1;
-
-pub const JUDGED: usize = 7;
-
-pub const BUILT: usize = 10;
-
-const DIFFERENCES: usize = 15;
-
-pub const KINDS: usize = 16;
-
-// Prints what is counted by a kind, and a blank.
-fn print_name<W: Write>(out: &mut W, kind: usize) -> io::Result<()> {
-    let names =
-        b"questions by chance\ndecided found\ndecided never\ndecided no room\nrows looked at\ndecided again in fewer rows or letters\ntuples tried\ntuples judged\nwords tried in order\nfirst words that satisfy\ntables built\ntables not built for want of room\ntable rows looked at\nwords run\nwords run that satisfy\ndifferences\n";
-    out.write_all(word(names, kind, b'\n'))?;
-    out.write_all(b" ")
+#[derive(Clone, Copy, PartialEq, Eq, Debug)]
+pub enum Kind {
+    Questions,
+    Found,
+    Never,
+    NoRoom,
+    Rows,
+    Again,
+    Tuples,
+    Judged,
+    Words,
+    Met,
+    Built,
+    NotBuilt,
+    TableRows,
+    Run,
+    RunMet,
+    Differences,
 }
 
-fn print_count<W: Write>(out: &mut W, count: u64) -> io::Result<()> {
-    writeln!(out, "{count}")
+impl Kind {
+    const ALL: [Kind; 16] = [
+        Kind::Questions,
+        Kind::Found,
+        Kind::Never,
+        Kind::NoRoom,
+        Kind::Rows,
+        Kind::Again,
+        Kind::Tuples,
+        Kind::Judged,
+        Kind::Words,
+        Kind::Met,
+        Kind::Built,
+        Kind::NotBuilt,
+        Kind::TableRows,
+        Kind::Run,
+        Kind::RunMet,
+        Kind::Differences,
+    ];
 }
 
-fn say_wrong<W: Write>(out: &mut W, number: u64, kind: usize) -> io::Result<()> {
-    print_name(out, kind)?;
-    out.write_all(b"differs in question ")?;
-    print_count(out, number)
-}
-
-fn more(counts: &mut [u64; KINDS], kind: usize, amount: u64) {
-    if kind < KINDS {
-        counts[kind] = plus(counts[kind], amount);
+impl fmt::Display for Kind {
+    fn fmt<W: fmt::Write>(&self, f: &mut fmt::Formatter<W>) -> fmt::Result {
+        f.write_str(match self {
+            Kind::Questions => "questions by chance",
+            Kind::Found => "decided found",
+            Kind::Never => "decided never",
+            Kind::NoRoom => "decided no room",
+            Kind::Rows => "rows looked at",
+            Kind::Again => "decided again in fewer rows or letters",
+            Kind::Tuples => "tuples tried",
+            Kind::Judged => "tuples judged",
+            Kind::Words => "words tried in order",
+            Kind::Met => "first words that satisfy",
+            Kind::Built => "tables built",
+            Kind::NotBuilt => "tables not built for want of room",
+            Kind::TableRows => "table rows looked at",
+            Kind::Run => "words run",
+            Kind::RunMet => "words run that satisfy",
+            Kind::Differences => "differences",
+        })
     }
 }
 
 // What is counted where it is right.
-pub fn where_right(right: bool, amount: u64) -> u64 {
-    if right { amount } else { WRONG }
+pub fn where_right(right: bool, amount: usize) -> Option<usize> {
+    if right { Some(amount) } else { None }
 }
 
-// Counts an amount of a kind, or a difference in the question of a number.
-pub fn add<W: Write>(
-    out: &mut W,
-    counts: &mut [u64; KINDS],
-    number: u64,
-    kind: usize,
-    amount: u64,
-) -> io::Result<()> {
-    if amount == WRONG {
-        more(counts, DIFFERENCES, 1);
-        return say_wrong(out, number, kind);
-    }
-    more(counts, kind, amount);
-    Ok(())
+// The counts, and the number of the question that is asked.
+#[derive(Drop)]
+pub struct Tally {
+    counts: [usize; Kind::ALL.len()],
+    pub question: usize,
 }
 
-// Counts the amounts of a kind and those after it.
-pub fn add_all<W: Write>(
-    out: &mut W,
-    counts: &mut [u64; KINDS],
-    number: u64,
-    kind: usize,
-    amounts: &[u64],
-) -> io::Result<()>
-    requires { kind ≤ 16 }
-{
-    let mut i = 0;
-    while i < amounts.len() && i < KINDS {
-        add(out, counts, number, kind + i, amounts[i])?;
-        i += 1;
+impl Tally {
+    pub fn new() -> Tally {
+        Tally {
+            counts: [0; Kind::ALL.len()],
+            question: 0,
+        }
     }
-    Ok(())
-}
 
-pub fn print_counts<W: Write>(out: &mut W, counts: &[u64; KINDS]) -> io::Result<()> {
-    for kind in 0..KINDS {
-        print_name(out, kind)?;
-        print_count(out, counts[kind])?;
+    fn count(&mut self, counted: Kind, amount: usize) {
+        for (kind, count) in Kind::ALL.iter().zip(self.counts.iter_mut()) {
+            if *kind == counted {
+                *count = count.saturating_add(amount);
+            }
+        }
     }
-    Ok(())
+
+    // Counts an amount of a kind, or a difference.
+    pub fn add<W: Write>(
+        &mut self,
+        out: &mut W,
+        kind: Kind,
+        amount: Option<usize>,
+    ) -> io::Result<()> {
+        if let Some(amount) = amount {
+            self.count(kind, amount);
+            return Ok(());
+        }
+        self.count(Kind::Differences, 1);
+        writeln!(out, "{kind} differs in question {}", self.question)
+    }
+
+    // Counts amounts of some kinds.
+    pub fn add_all<W: Write>(
+        &mut self,
+        out: &mut W,
+        amounts: &[(Kind, Option<usize>)],
+    ) -> io::Result<()> {
+        for (kind, amount) in amounts {
+            self.add(out, *kind, *amount)?;
+        }
+        Ok(())
+    }
+
+    pub fn print<W: Write>(&self, out: &mut W) -> io::Result<()> {
+        for (kind, count) in Kind::ALL.iter().zip(&self.counts) {
+            writeln!(out, "{kind} {count}")?;
+        }
+        Ok(())
+    }
 }
 
 // Says whether a case is right.

@@ -13,7 +13,8 @@ use Rattle.smtlib.specs.Formulas.{Formula, Clause, outside_clause, comparison, c
 use Rattle.smtlib.specs.Script.{lowest_of}
 use Rattle.smtlib.specs.Laws.{lower_of, lowest_append, faults_among_append}
 use Rattle.lexicon.specs.Spots.{spot_of}
-use Rattle.terms.specs.Heads.{head_code, head_in}
+use Rattle.terms.specs.Heads.{head_code, head_in, KindSays}
+use Rattle.terms.specs.declared.heads.ListKind.{ListKind}
 use Rattle.terms.specs.Gathered.{sides_term, gathered}
 use Rattle.clauses.specs.Read.{takes_parts}
 
@@ -81,11 +82,11 @@ lowest_among cs c =
 abbrev pub NoFormula : ℕ → Type 0
 NoFormula code = (3 ≤ code) × (code ≤ 10) → ⊥
 
-pub low_code_outside : (code : ℕ) → code < 3 → NoFormula code
-low_code_outside code l h = omega (arith, l, h.0)
-
-pub high_code_outside : (code : ℕ) → 10 < code → NoFormula code
-high_code_outside code l h = omega (arith, l, h.1)
+pub no_formula : {code : ℕ} (k : ListKind) → KindSays code k → (k ≡ ListKind.Comparison → ⊥) → (k ≡ ListKind.Connective → ⊥) → NoFormula code
+no_formula ListKind.Term s c n h = omega (arith, s, h.0)
+no_formula ListKind.Comparison s c n h = absurd (c refl)
+no_formula ListKind.Connective s c n h = absurd (n refl)
+no_formula ListKind.Other s c n h = omega (arith, s, h.1)
 
 other_list_outside : (h : Head) (at : ℕ) (ts : List Term) (cs : List Clause) → NoFormula (head_code h) → list_clause h at ts cs ≡ outside_clause at
 unfolding list_clause

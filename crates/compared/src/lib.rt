@@ -1,4 +1,4 @@
-// What the programs that test the calls share: the calls in marked areas with their answers by numbers, and comparing buffers.
+// What the programs that test the calls share: deciding and building in marked areas, comparing buffers, and the words of a text.
 #![tactic(auto)]
 
 pub mod asked;

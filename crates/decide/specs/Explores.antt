@@ -1,6 +1,6 @@
 -- What numbering a question's rows from its start leaves; that a row found in it can be read off the path area, and that the answer made of it
 -- is that of document 01's definitions.
-use Rattle.std.specs.Prelude.{◌≡◌, refl, false, get_or, ℤ}
+use Rattle.std.specs.Prelude.{◌≡◌, refl, false, get_or, ℤ, Ok, Result}
 use Rattle.std.proofs.Math.Path.{sym, ap}
 use Rattle.std.proofs.Common.{◌∙◌, true≢false, mul-le-mul_right, one-mul, get_or-take}
 use Rattle.std.proofs.Math.Bool.{true}
@@ -11,8 +11,9 @@ use borrow.Author.Tests.{le-leb}
 use Rattle.std.proofs.Math.ListN.{length, take, length-take}
 use Rattle.std.proofs.Math.Seq.{length-take-le}
 use Rattle.std.proofs.Math.Pow.{pow_mono}
+use Rattle.scope.specs.declared.Refusal.{Refusal}
+use Rattle.scope.specs.declared.Decision.{Decision}
 use Rattle.scope.specs.declared.Question.{Question}
-use Rattle.scope.specs.declared.DecideAnswer.{DecideAnswer}
 use Rattle.scope.specs.Whole.{joined, at_front}
 use Rattle.scope.specs.Words.{Word, ◌▹◌}
 use Rattle.scope.specs.Question.{atoms_of, atom_count}
@@ -58,7 +59,7 @@ module _ {q : Question} {atoms : Kinds} {rows : ℕ} {keys₀ : List ℤ} {path�
   start_row_cells = append-nil (cells_of (start_of (atoms_of q))) ∙ sym (start_cells ask.limits)
 
   pub decides_start : (machine_of q).accepts (machine_of q).start ≡ true → {word : List ℕ}
-      → Decides (decided_question q keys₀ path₀ word) (DecideAnswer.Found 1 0) keys₁ path₁ word
+      → Decides (decided_question q keys₀ path₀ word) (Ok (Decision.Found 1 0)) keys₁ path₁ word
   unfolding decided_question path_cells joined start_row
   decides_start accepts {word} =
       let v : verdict_of q rows ≡ found 0 = start_found (machine_of q) rows ask.some_rows accepts in
@@ -179,7 +180,7 @@ module _ {q : Question} {atoms : Kinds} {rows : ℕ} {keys₀ : List ℤ} {path�
       go never x = tt
       go no_room x = tt
 
-  module _ {word₀ word₁ : List ℕ} {answer₁ : DecideAnswer} (a : Answers explored path₁ word₀ word₁ answer₁) where
+  module _ {word₀ word₁ : List ℕ} {answer₁ : Result Decision Refusal} (a : Answers explored path₁ word₀ word₁ answer₁) where
     answer_is : (v : Verdict) → verdict_of q rows ≡ v
         → explored_answer (explored_as (machine_of q) v rows (rows_of q rows)) path₁ word₀ ≡ decide_answer v rows (rows_of q rows) (machine_of q) word₀
     answer_is (found w) x = rw (found_word_is w x)
@@ -203,7 +204,7 @@ module _ {q : Question} {atoms : Kinds} {rows : ℕ} {keys₀ : List ℤ} {path�
 
 -- where no row is lent, nothing changes
 pub decides_nothing : (q : Question) (keys : List ℤ) (path word : List ℕ) {rows : ℕ} → rows ≡ 0 → rows ≡ decide_room q keys path
-    → Decides (decided_question q keys path word) (DecideAnswer.NoRoom 0) keys path word
+    → Decides (decided_question q keys path word) (Ok (Decision.NoRoom 0)) keys path word
 unfolding decided_question key_cells path_cells joined at_front
 decides_nothing q keys path word z r =
     rw (← r, z, no_rows (machine_of q)) record { answer = refl; keys = refl; path = refl; word = refl }

@@ -1,7 +1,8 @@
 -- What trying a letter does to the rows that are there, over any lawful machine of key rows: the target has a row, or gets one.
 use Prim.Native.Nat.{ℕ, suc, ◌+◌, ◌*◌, ◌≤◌, ◌<◌}
 use mathlib.Core.Path.{◌≡◌, sym, ap, ◌∙◌}
-use mathlib.Core.Bool.{true, false}
+use mathlib.Core.Bool.{true, false, true≢false}
+use Rattle.std.specs.Prelude.{Option, Some, None, is_some}
 use mathlib.Core.List.{List}
 use native.Mathlib.Nat.{mul-le-mul_right}
 use native.Mathlib.Omega.{arith}
@@ -18,6 +19,7 @@ use Rattle.index.specs.Index.{Finds}
 use Rattle.plan.specs.declared.Plan.{Plan}
 use Rattle.plan.specs.declared.Stand.{Stand}
 use Rattle.plan.specs.Machine.{KeyRow}
+use Rattle.plan.specs.Moves.{going_at}
 use Rattle.explore.specs.Areas.{Held, Stored, RowRoom, held_row_lem, held_more}
 use Rattle.explore.specs.Standing.{Lent, There, Stands, FoundLast}
 use Rattle.explore.specs.Stages.{has_begun}
@@ -34,21 +36,31 @@ module _ (M : Machine (List ℤ)) (ok : Lawful M) {plan : Plan} {keys : List ℤ
 
   -- what the index finds of the target's cells
   module _ (good : AllGood (KeyRow plan.width) (partial M s.row s.letter)) (key : List ℤ)
-      (key_is : take plan.width key ≡ target M (partial M s.row s.letter) s.row s.letter) {r : ℕ} (f : Finds keys plan.width key s.count r) where
+      (key_is : take plan.width key ≡ target M (partial M s.row s.letter) s.row s.letter) {found : Option ℕ} (f : Finds keys plan.width key s.count found) where
     state_of : (u : ℕ) → u < s.count → row_at keys plan.width u ≡ (row M (partial M s.row s.letter) u).state
     state_of u h = held_row_lem M plan.width t.rows_there.held good u h
 
-    pub is_old : r < s.count → HasRow M (partial M s.row s.letter) (target M (partial M s.row s.letter) s.row s.letter)
-    is_old h = record {
-      at = r;
-      inside = omega (arith, t.rows_there.held.count_is);
-      is = sym (state_of r h) ∙ f.row h ∙ key_is;
-    }
+    pub is_old : is_some found ≡ true → HasRow M (partial M s.row s.letter) (target M (partial M s.row s.letter) s.row s.letter)
+    is_old = go found f
+      where
+        go : (o : Option ℕ) → Finds keys plan.width key s.count o → is_some o ≡ true
+            → HasRow M (partial M s.row s.letter) (target M (partial M s.row s.letter) s.row s.letter)
+        go (Some r) g e = record {
+          at = r;
+          inside = omega (arith, t.rows_there.held.count_is, g.says.0);
+          is = sym (state_of r g.says.0) ∙ g.says.1 ∙ key_is;
+        }
+        go None g e = absurd (true≢false (sym e))
 
-    pub is_new : s.count ≤ r → New M s.row s.letter
-    is_new h u p e =
-        let q : u < s.count = omega (arith, t.rows_there.held.count_is) in
-        f.none (omega (arith, f.low)) u q (state_of u q ∙ e ∙ sym key_is)
+    pub is_new : is_some found ≡ false → New M s.row s.letter
+    is_new = go found f
+      where
+        go : (o : Option ℕ) → Finds keys plan.width key s.count o → is_some o ≡ false → New M s.row s.letter
+        go (Some r) g e = absurd (true≢false e)
+        go None g e =
+            λ u p q.
+            let h : u < s.count = omega (arith, t.rows_there.held.count_is) in
+            g.says u h (state_of u h ∙ q ∙ sym key_is)
 
   -- it has the next row
   module _ (new : New M s.row s.letter) {key : List ℤ} (key_is : take plan.width key ≡ target M (partial M s.row s.letter) s.row s.letter)
@@ -76,7 +88,7 @@ module _ (M : Machine (List ℤ)) (ok : Lawful M) {plan : Plan} {keys : List ℤ
     })
 
     pub found_row : plan.testing ≡ true → M.accepts (target M (partial M s.row s.letter) s.row s.letter) ≡ true
-        → FoundLast M plan keys' path' (record { count = s.count + 1; row = s.row; letter = s.letter; stopped = true; accepted = true })
+        → FoundLast M plan keys' path' (going_at (s.count + 1) s.row s.letter)
     found_row d e = record {
       is_tested = d;
       spot = record { begun = has_begun M t below; letter_ok = t.letter_ok; new = new };

@@ -3,6 +3,7 @@ use Prim.Native.Nat.{ℕ, suc, ◌+◌, ◌*◌, ◌≤◌, ◌<◌}
 use mathlib.Core.Path.{◌≡◌, refl, sym, ap, ◌∙◌}
 use mathlib.Core.Bool.{Bool, true, false, ◌&&◌, true≢false}
 use mathlib.Core.List.{List}
+use Rattle.std.specs.Prelude.{Option, is_some, Result, Ok, Err}
 use native.Mathlib.Numerals.{add-one}
 use native.Mathlib.Omega.{arith}
 use lib.ListN.{length, take}
@@ -17,9 +18,11 @@ use Rattle.index.specs.Rows.{row_at, row_end, stored_front}
 use Rattle.index.specs.Index.{Finds}
 use Rattle.plan.specs.declared.Plan.{Plan}
 use Rattle.plan.specs.declared.Stand.{Stand}
+use Rattle.plan.specs.declared.Stop.{Stop}
+use Rattle.plan.specs.declared.Stop.TheVariants.{Full}
 use Rattle.plan.specs.Machine.{KeyRow, Task, Runs}
 use Rattle.plan.specs.Loaded.{Loaded, Steps, key_accepts, steps, target_is}
-use Rattle.plan.specs.Moves.{After, next_letter, next_row, Moved}
+use Rattle.plan.specs.Moves.{After, next_letter, next_row, Moved, going_at}
 use Rattle.plan.proofs.Skipping.{all_passed}
 use Rattle.explore.specs.Areas.{path_count_le, Kept, RowRoom, kept_refl, kept_more, held_row_lem}
 use Rattle.explore.specs.Standing.{Lent, Linked, There, Stands, RowOf, Tried, FrontStays, RowFits, RowAdded}
@@ -33,6 +36,12 @@ both false b e = absurd (true≢false (sym e))
 neither : (a b : Bool) → a ≡ true → a && b ≡ false → b ≡ false
 neither true b d e = e
 neither false b d e = absurd (true≢false (sym d))
+
+pub ok_same : {s t : Stand} → ◌≡◌ {A = Result Stand Stop} (Ok s) (Ok t) → s ≡ t
+ok_same e = cc
+
+pub not_ok : {e : Stop} {s : Stand} → ◌≡◌ {A = Result Stand Stop} (Err e) (Ok s) → ⊥
+not_ok q = cc
 
 further : {plan : Plan} {i a i' a' : ℕ} → a < 64 → After plan i a i' a' → i * 64 + a < i' * 64 + a'
 further h (next_letter p skips) = omega (arith, skips.later)
@@ -102,9 +111,9 @@ module _ {plan : Plan} {sums start : List ℤ} {M : Machine (List ℤ)} (runs : 
 
     -- ---- where it goes on
 
-    goes_on_lem : {keys' : List ℤ} {path' : List ℕ} (count' : ℕ) → s.count ≤ count' → {i a : ℕ} {b c : Bool} → After plan s.row s.letter i a
+    goes_on_lem : {keys' : List ℤ} {path' : List ℕ} (count' : ℕ) → s.count ≤ count' → {i a : ℕ} → After plan s.row s.letter i a
         → There M plan keys' path' count' (partial M s.row (suc s.letter))
-        → Stands M plan keys' path' (record { count = count'; row = i; letter = a; stopped = b; accepted = c })
+        → Stands M plan keys' path' (going_at count' i a)
     goes_on_lem count' more {a = a} (next_letter p skips) there = record {
       rows_there =
           rw (all_passed runs task s.row (has_begun M t below) s.letter a skips.later (omega arith) skips.between) there;
@@ -129,44 +138,43 @@ module _ {plan : Plan} {sums start : List ℤ} {M : Machine (List ℤ)} (runs : 
     moved : {keys' : List ℤ} {path' links' : List ℕ} {count' : ℕ} {to : Stand} → Moved plan s count' to → s.count ≤ count'
         → There M plan keys' path' count' (partial M s.row (suc s.letter))
         → Kept plan.width plan.noting count' keys path keys' path' → Linked plan keys' links' count'
-        → Tried M plan s keys path keys' path' links' to
+        → Tried M plan s keys path keys' path' links' (Ok to)
     moved {count' = count'} {to} mv more there kept linked = record {
       went = record {
         more = rw mv.count_is more;
         kept = rw mv.count_is kept;
-        there = rw mv.goes_on (rw (← mv.count_is) at (goes_on_lem count' more {b = false} {c = to.accepted} mv.place there));
+        there = rw (← mv.count_is) at (goes_on_lem count' more mv.place there);
       };
-      linked = λ _. rw mv.count_is linked;
-      on = λ _. further (omega (arith, letter_below, task.few_letters)) mv.place;
+      linked = λ r e. rw (← ok_same e, mv.count_is) linked;
+      on = λ r e. rw (← ok_same e) (further (omega (arith, letter_below, task.few_letters)) mv.place);
     }
 
-    module _ {f : ℕ} (finds : Finds keys plan.width key s.count f) where
-      pub tried_old : f < s.count → {links : List ℕ} → Linked plan keys links s.count → {to : Stand} → Moved plan s s.count to
-          → Tried M plan s keys path keys path links to
+    module _ {found : Option ℕ} (finds : Finds keys plan.width key s.count found) where
+      pub tried_old : is_some found ≡ true → {links : List ℕ} → Linked plan keys links s.count → {to : Stand} → Moved plan s s.count to
+          → Tried M plan s keys path keys path links (Ok to)
       tried_old h linked mv =
           moved mv (omega arith)
           (old_row M ok t below (is_old M ok t below good key key_target finds h))
           (kept_refl plan.width plan.noting s.count keys path) linked
 
-      new : s.count ≤ f → New M s.row s.letter
+      new : is_some found ≡ false → New M s.row s.letter
       new h = is_new M ok t below good key key_target finds h
 
-      pub tried_full : s.count ≤ f → s.count ≡ plan.rows → {links : List ℕ} {to : Stand}
-          → to ≡ record { count = s.count; row = s.row; letter = s.letter; stopped = true; accepted = false }
-          → Tried M plan s keys path keys path links to
-      tried_full h full e = rw e (record {
+      pub tried_full : is_some found ≡ false → s.count ≡ plan.rows → {links : List ℕ}
+          → Tried M plan s keys path keys path links (Err (Full s))
+      tried_full h full = record {
         went = record {
           more = omega arith;
           kept = kept_refl plan.width plan.noting s.count keys path;
-          there = record { stands = record { rows_there = t.rows_there; letter_ok = t.letter_ok; begun = t.begun; row_ok = t.row_ok }; new = new h; below = below; full = full };
+          there = record { stands = t; new = new h; below = below; full = full };
         };
-        linked = λ z. absurd (let y : ◌≡◌ {A = ℕ} 0 1 = cc in omega arith);
-        on = λ z. absurd (let y : ◌≡◌ {A = ℕ} 0 1 = cc in omega arith);
-      })
+        linked = λ r e. absurd (not_ok e);
+        on = λ r e. absurd (not_ok e);
+      }
 
       -- ---- it has the next row
 
-      module _ (h : s.count ≤ f) (free : s.count < plan.rows) {keys' : List ℤ} {path' links' : List ℕ} {b : Bool}
+      module _ (h : is_some found ≡ false) (free : s.count < plan.rows) {keys' : List ℤ} {path' links' : List ℕ} {b : Bool}
           (added : RowAdded plan s key keys path keys' path' links' b) where
         answer : b ≡ plan.testing && M.accepts (target M (partial M s.row s.letter) s.row s.letter)
         answer = added.says ∙ ap (λ (x : Bool). plan.testing && x) (key_accepts runs stepping.keyed ∙ ap M.accepts key_target)
@@ -177,22 +185,21 @@ module _ {plan : Plan} {sums start : List ℤ} {M : Machine (List ℤ)} (runs : 
         pub front_stays : FrontStays plan s keys keys'
         front_stays = rw added.stored.keys_are (stored_front keys key plan.width s.count (room_for_lem free).keys_room)
 
-        pub tried_found : b ≡ true → {to : Stand} → to ≡ record { count = s.count + 1; row = s.row; letter = s.letter; stopped = true; accepted = true }
-            → Tried M plan s keys path keys' path' links' to
-        tried_found e q =
+        pub tried_found : b ≡ true → Tried M plan s keys path keys' path' links' (Err (Stop.Found (going_at (s.count + 1) s.row s.letter)))
+        tried_found e =
             let y = both plan.testing (M.accepts (target M (partial M s.row s.letter) s.row s.letter)) (sym answer ∙ e) in
-            rw q (record {
+            record {
               went = record {
                 more = omega arith;
                 kept = stays;
                 there = found_row M ok t below (new h) key_target (room_for_lem free) added.stored free y.0 y.1;
               };
-              linked = λ z. absurd (let w : ◌≡◌ {A = ℕ} 0 1 = cc in omega arith);
-              on = λ z. absurd (let w : ◌≡◌ {A = ℕ} 0 1 = cc in omega arith);
-            })
+              linked = λ r e. absurd (not_ok e);
+              on = λ r e. absurd (not_ok e);
+            }
 
         pub tried_new : Lent plan keys' path' → Linked plan keys' links' (s.count + 1) → b ≡ false → {to : Stand} → Moved plan s (s.count + 1) to
-            → Tried M plan s keys path keys' path' links' to
+            → Tried M plan s keys path keys' path' links' (Ok to)
         tried_new lent linked e mv =
             moved mv (omega arith)
             (new_row_lem M ok t below (new h) key_target (room_for_lem free) added.stored free lent

@@ -1,5 +1,5 @@
 -- By its ends exploring knows the verdict over the rows lent, and the areas hold the rows of every state counted.
-use Rattle.std.specs.Prelude.{ℕ, suc, ◌*◌, ◌≤◌, ◌<◌, ◌≡◌, Bool, List, length, ℤ}
+use Rattle.std.specs.Prelude.{ℕ, suc, ◌*◌, ◌≤◌, ◌<◌, ◌≡◌, Bool, Result, Ok, Err, List, length, ℤ}
 use Rattle.std.proofs.Math.Path.{refl}
 use Rattle.std.proofs.Common.{sym, ap, ◌∙◌, mul-le-mul_right, arith, le-leb}
 use Rattle.std.proofs.Math.Logic.{by_cases}
@@ -12,10 +12,12 @@ use Rattle.theory.specs.Machine.Lawful.{Lawful}
 use Rattle.theory.specs.Machine.Exploring.{partial, new_row, grown_length, partial_zero, partial_longer, found_end, found_row, found_counted, no_room_end, no_room_more, no_room_taken, never_end, all_fit, all_rows}
 use Rattle.plan.specs.declared.Plan.{Plan}
 use Rattle.plan.specs.declared.Stand.{Stand}
+use Rattle.plan.specs.declared.Stop.{Stop}
+use Rattle.plan.specs.declared.Stop.TheVariants.{Full}
 use Rattle.plan.specs.declared.Explored.{Explored}
 use Rattle.plan.specs.Moves.{with_rows, explored_by}
 use Rattle.explore.specs.Areas.{path_count, path_count_le, Held, Kept, keys_front, path_front}
-use Rattle.explore.specs.Standing.{Lent, Stands, FoundLast, FullAt, StandsBy, ExploringEnded}
+use Rattle.explore.specs.Standing.{Lent, Stands, FoundLast, FullAt, ExploringEnded}
 use Rattle.explore.specs.Outcome.{outcome, explored_as, Numbered}
 use Rattle.explore.specs.Stages.{has_begun}
 
@@ -121,13 +123,13 @@ module _ (M : Machine (List ℤ)) (ok : Lawful M) (plan : Plan) (keys₀ : List 
 
   -- ---- exploring has ended, with so few rows; for want of rows only where they are all
 
-  pub ended_numbered : {few count₀ : ℕ} {s : Stand} → few ≤ rows → ExploringEnded M (with_rows plan few) count₀ keys₀ path₀ keys path s
-      → (s.stopped ≡ true → s.accepted ≡ false → few ≡ rows)
-      → Numbered M plan keys₀ path₀ keys path (explored_by s.stopped s.accepted s)
-  ended_numbered {few} {s = s} less e whole = go s.stopped s.accepted refl refl e.went.there
+  pub ended_numbered : {few count₀ : ℕ} {r : Result Stand Stop} → few ≤ rows → ExploringEnded M (with_rows plan few) count₀ keys₀ path₀ keys path r
+      → ((s : Stand) → r ≡ Err (Full s) → few ≡ rows)
+      → Numbered M plan keys₀ path₀ keys path (explored_by r)
+  ended_numbered {few} {count₀} {r = r} less e whole = go r e whole
     where
-      go : (b c : Bool) → s.stopped ≡ b → s.accepted ≡ c → StandsBy b c M (with_rows plan few) keys path s
-          → Numbered M plan keys₀ path₀ keys path (explored_by b c s)
-      go false c p q t = all_numbered less t (e.all p) e.went.kept
-      go true true p q t = found_numbered less t e.went.kept
-      go true false p q t = full_numbered (rw (whole p q) at t) e.went.kept
+      go : (r : Result Stand Stop) → ExploringEnded M (with_rows plan few) count₀ keys₀ path₀ keys path r → ((s : Stand) → r ≡ Err (Full s) → few ≡ rows)
+          → Numbered M plan keys₀ path₀ keys path (explored_by r)
+      go (Ok s) e whole = all_numbered less e.went.there (e.all s refl) e.went.kept
+      go (Err (Stop.Found s)) e whole = found_numbered less e.went.there e.went.kept
+      go (Err (Stop.Full s)) e whole = full_numbered (rw (whole s refl) at e.went.there) e.went.kept

@@ -1,5 +1,5 @@
 -- The two stages of exploring: it begins at the start's row with few rows, and goes on, where these are full, with all.
-use Rattle.std.specs.Prelude.{ℕ, ◌*◌, ◌/◌, ◌≤◌, ◌<◌, ◌≡◌, Bool, List, [], ◌∷◌, length, replicate, ℤ, pos}
+use Rattle.std.specs.Prelude.{ℕ, ◌*◌, ◌/◌, ◌≤◌, ◌<◌, ◌≡◌, Bool, Result, Err, List, [], ◌∷◌, length, replicate, ℤ, pos}
 use Rattle.std.proofs.Math.Path.{refl}
 use Rattle.std.proofs.Math.Logic.{by_cases}
 use Rattle.std.proofs.Math.Bool.{true, false}
@@ -14,8 +14,10 @@ use Rattle.theory.specs.Machine.Exploring.{partial_zero, start_rows, start_none}
 use Rattle.index.specs.Laws.{none_indexed}
 use Rattle.plan.specs.declared.Plan.{Plan}
 use Rattle.plan.specs.declared.Stand.{Stand}
+use Rattle.plan.specs.declared.Stop.{Stop}
+use Rattle.plan.specs.declared.Stop.TheVariants.{Full}
 use Rattle.plan.specs.Machine.{KeyRow, Task}
-use Rattle.plan.specs.Moves.{with_rows, going_at}
+use Rattle.plan.specs.Moves.{with_rows, going_at, stand_of}
 use Rattle.explore.specs.Areas.{row_cells, path_rows, path_count, path_count_le, Held, kept_trans}
 use Rattle.explore.specs.Standing.{Lent, Linked, Stands, FullAt, stands_as, ExploringEnded}
 use Rattle.explore.specs.Outcome.{Ready}
@@ -123,16 +125,16 @@ more_stands less lent s =
       row_ok = s.row_ok;
     }
 
-module _ {M : Machine (List ℤ)} (plan : Plan) {few : ℕ} {count₀ : ℕ} {keys₀ : List ℤ} {path₀ : List ℕ} {keys : List ℤ} {path : List ℕ} {s : Stand}
-    (e : ExploringEnded M (with_rows plan few) count₀ keys₀ path₀ keys path s) where
-  pub stopped_full : s.stopped ≡ true → s.accepted ≡ false → FullAt M (with_rows plan few) keys path s
-  stopped_full p q = stands_as M (with_rows plan few) keys path s p q e.went.there
+module _ {M : Machine (List ℤ)} (plan : Plan) {few : ℕ} {count₀ : ℕ} {keys₀ : List ℤ} {path₀ : List ℕ} {keys : List ℤ} {path : List ℕ} {r : Result Stand Stop}
+    (e : ExploringEnded M (with_rows plan few) count₀ keys₀ path₀ keys path r) {s : Stand} (stopped : r ≡ Err (Full s)) where
+  pub stopped_full : FullAt M (with_rows plan few) keys path s
+  stopped_full = stands_as M (with_rows plan few) keys path stopped e.went.there
 
-  pub ended_after : {keys' : List ℤ} {path' : List ℕ} {t : Stand} → ExploringEnded M plan s.count keys path keys' path' t → ExploringEnded M plan count₀ keys₀ path₀ keys' path' t
+  pub ended_after : {keys' : List ℤ} {path' : List ℕ} {t : Result Stand Stop} → ExploringEnded M plan s.count keys path keys' path' t → ExploringEnded M plan count₀ keys₀ path₀ keys' path' t
   ended_after {t = t} f = record {
     went = record {
-      more = omega (arith, e.went.more, f.went.more);
-      kept = kept_trans s.count t.count f.went.more e.went.kept f.went.kept;
+      more = let h : count₀ ≤ s.count = rw stopped at e.went.more in omega (arith, f.went.more);
+      kept = kept_trans s.count (stand_of t).count f.went.more (rw stopped at e.went.kept) f.went.kept;
       there = f.went.there;
     };
     all = f.all;

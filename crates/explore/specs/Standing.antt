@@ -1,7 +1,6 @@
 -- Where exploring stands: the areas hold the rows of the middle of row i, its letters below a tried, and the index has them. And what it
 -- ends in: a new state that accepts, a new state that finds no room, or every row expanded.
-use Rattle.std.specs.Prelude.{ℕ, ◌+◌, ◌*◌, ◌≤◌, ◌<◌, ◌≡◌, Bool, true, false, ◌&&◌, List, length, take, ℤ}
-use Rattle.std.proofs.Common.{subst}
+use Rattle.std.specs.Prelude.{ℕ, ◌+◌, ◌*◌, ◌≤◌, ◌<◌, ◌≡◌, Bool, true, ◌&&◌, Result, Ok, Err, List, length, take, ℤ}
 use Rattle.scope.specs.Numbering.{Machine, Rows, numbered}
 use Rattle.scope.specs.Sizes.{most_letters, most_states}
 use Rattle.theory.specs.Machine.Verdicts.{NoneOf}
@@ -12,8 +11,10 @@ use Rattle.index.specs.Rows.{row_at}
 use Rattle.index.specs.Index.{Key, buckets, Indexed}
 use Rattle.plan.specs.declared.Plan.{Plan}
 use Rattle.plan.specs.declared.Stand.{Stand}
+use Rattle.plan.specs.declared.Stop.{Stop}
+use Rattle.plan.specs.declared.Stop.TheVariants.{Found, Full}
 use Rattle.plan.specs.Machine.{KeyRow}
-use Rattle.plan.specs.Moves.{place}
+use Rattle.plan.specs.Moves.{place, stand_of}
 use Rattle.explore.specs.Areas.{path_count, Held, Kept, Stored, RowRoom}
 
 -- the areas have room for the rows
@@ -71,37 +72,36 @@ pub record FullAt (M : Machine (List ℤ)) (plan : Plan) (keys : List ℤ) (path
   pub below : s.row < s.count
   pub full : s.count ≡ plan.rows
 
--- by whether exploring has stopped, and whether a state was accepted
-abbrev pub StandsBy : Bool → Bool → Machine (List ℤ) → Plan → List ℤ → List ℕ → Stand → Type 0
-StandsBy false b M plan keys path s = Stands M plan keys path s
-StandsBy true true M plan keys path s = FoundLast M plan keys path s
-StandsBy true false M plan keys path s = FullAt M plan keys path s
+-- by whether exploring has stopped, and why
+abbrev pub StandsBy : Machine (List ℤ) → Plan → List ℤ → List ℕ → Result Stand Stop → Type 0
+StandsBy M plan keys path (Ok s) = Stands M plan keys path s
+StandsBy M plan keys path (Err (Found s)) = FoundLast M plan keys path s
+StandsBy M plan keys path (Err (Full s)) = FullAt M plan keys path s
 
-pub stands_as : (M : Machine (List ℤ)) (plan : Plan) (keys : List ℤ) (path : List ℕ) (s : Stand) {b c : Bool} → s.stopped ≡ b → s.accepted ≡ c
-    → StandsBy s.stopped s.accepted M plan keys path s → StandsBy b c M plan keys path s
-stands_as M plan keys path s {c = c} e f t =
-    subst (λ (x : Bool). StandsBy x c M plan keys path s) e (subst (λ (x : Bool). StandsBy s.stopped x M plan keys path s) f t)
+pub stands_as : (M : Machine (List ℤ)) (plan : Plan) (keys : List ℤ) (path : List ℕ) {r q : Result Stand Stop} → r ≡ q
+    → StandsBy M plan keys path r → StandsBy M plan keys path q
+stands_as M plan keys path e t = rw (← e) t
 
--- from the areas of before, with count₀ rows, to s
-pub record Went (M : Machine (List ℤ)) (plan : Plan) (count₀ : ℕ) (keys₀ : List ℤ) (path₀ : List ℕ) (keys : List ℤ) (path : List ℕ) (s : Stand) : Type 0 where
-  pub more : count₀ ≤ s.count
-  pub kept : Kept plan.width plan.noting s.count keys₀ path₀ keys path
-  pub there : StandsBy s.stopped s.accepted M plan keys path s
+-- from the areas of before, with count₀ rows, to where r stands
+pub record Went (M : Machine (List ℤ)) (plan : Plan) (count₀ : ℕ) (keys₀ : List ℤ) (path₀ : List ℕ) (keys : List ℤ) (path : List ℕ) (r : Result Stand Stop) : Type 0 where
+  pub more : count₀ ≤ (stand_of r).count
+  pub kept : Kept plan.width plan.noting (stand_of r).count keys₀ path₀ keys path
+  pub there : StandsBy M plan keys path r
 
 -- once a letter is tried where `from` stands, or the letters that are left of its row
-pub record Tried (M : Machine (List ℤ)) (plan : Plan) (from : Stand) (keys₀ : List ℤ) (path₀ : List ℕ) (keys : List ℤ) (path links : List ℕ) (s : Stand) : Type 0 where
-  pub went : Went M plan from.count keys₀ path₀ keys path s
-  pub linked : s.stopped ≡ false → Linked plan keys links s.count
-  pub on : s.stopped ≡ false → place from < place s
+pub record Tried (M : Machine (List ℤ)) (plan : Plan) (from : Stand) (keys₀ : List ℤ) (path₀ : List ℕ) (keys : List ℤ) (path links : List ℕ) (r : Result Stand Stop) : Type 0 where
+  pub went : Went M plan from.count keys₀ path₀ keys path r
+  pub linked : (s : Stand) → r ≡ Ok s → Linked plan keys links s.count
+  pub on : (s : Stand) → r ≡ Ok s → place from < place s
 
 -- the rows that were there are as they were
 abbrev pub FrontStays : Plan → Stand → List ℤ → List ℤ → Type 0
 FrontStays plan s keys₀ keys = take (s.count * plan.width) keys ≡ take (s.count * plan.width) keys₀
 
 -- once exploring has ended: where it has not stopped, every row is expanded, and the index has them all
-pub record ExploringEnded (M : Machine (List ℤ)) (plan : Plan) (count₀ : ℕ) (keys₀ : List ℤ) (path₀ : List ℕ) (keys : List ℤ) (path : List ℕ) (s : Stand) : Type 0 where
-  pub went : Went M plan count₀ keys₀ path₀ keys path s
-  pub all : s.stopped ≡ false → s.count ≤ s.row
+pub record ExploringEnded (M : Machine (List ℤ)) (plan : Plan) (count₀ : ℕ) (keys₀ : List ℤ) (path₀ : List ℕ) (keys : List ℤ) (path : List ℕ) (r : Result Stand Stop) : Type 0 where
+  pub went : Went M plan count₀ keys₀ path₀ keys path r
+  pub all : (s : Stand) → r ≡ Ok s → s.count ≤ s.row
 
 -- ---- a row that is added
 

@@ -1,7 +1,7 @@
 // A letter tried from a numbered row: the state that it leads to has a row already, or gets the next one, or there is none left.
 #![tactic(auto)]
 
-ghost use Rattle.std.specs.Prelude.{◌≡◌, true, false, ◌&&◌, ◌+◌, ◌*◌, ◌≤◌, ◌<◌, length};
+ghost use Rattle.std.specs.Prelude.{◌≡◌, false, ◌&&◌, ◌+◌, ◌*◌, ◌≤◌, ◌<◌, length};
 ghost use Rattle.formula.specs.Truths.{truth_at};
 ghost use Rattle.step.specs.Cells.{worth_cells};
 ghost use Rattle.plan.specs.Machine.{machine, Task};
@@ -10,7 +10,7 @@ ghost use Rattle.explore.specs.Standing.{Linked, Stands, RowOf, RowFits, RowAdde
 ghost use Rattle.scope.specs.Sizes.{most_letters, most_states};
 
 use index::{add, find};
-use plan::{Plan, Stand};
+use plan::{Plan, Stand, Stop};
 use scope::Question;
 use step::{SUMS, step_row};
 
@@ -64,7 +64,7 @@ pub fn try_letter(
     links: &mut [u16],
     row: [i32; Question::ATOMS],
     s: Stand,
-) -> Stand
+) -> Result<Stand, Stop>
     requires task { Task plan sums.now }
     requires stands { Stands (machine plan sums.now keys.old) plan keys.old path.old s }
     requires linked { Linked plan keys.old links.old s.count }
@@ -74,14 +74,14 @@ pub fn try_letter(
 {
     let kinds = plan.kinds;
     let key = step_row(kinds, sums, s.letter, row);
-    if find(keys, plan.width, &key, links, s.count) < s.count {
-        return s.after(plan, s.count);
+    if find(keys, plan.width, &key, links, s.count).is_some() {
+        return Ok(s.after(plan, s.count));
     }
     if s.count == plan.rows {
-        return s.ending(s.count, false);
+        return Err(Stop::Full(s));
     }
     if add_row(plan, keys, path, links, key, s) {
-        return s.ending(s.count + 1, true);
+        return Err(Stop::Found(Stand::going(s.count + 1, s.row, s.letter)));
     }
-    s.after(plan, s.count + 1)
+    Ok(s.after(plan, s.count + 1))
 }

@@ -11,13 +11,15 @@ use lib.Dec.{T}
 use lib.IntN.{ℤ, pos}
 use lib.ListN.{length, get_or, set, length-set}
 use lib.Seq.{sets}
+use Rattle.scope.specs.declared.Rule.{Rule}
 use Rattle.scope.specs.declared.Refusal.{Refusal}
 use Rattle.scope.specs.Sizes.{most_variables, coefficient_fits, constant_fits}
-use Rattle.scope.specs.Refusals.{COEFFICIENT_BEYOND, CONSTANT_BEYOND, check, refusal, first_refusal}
+use Rattle.scope.specs.Refusals.{check, refusal, first_refusal}
 use Rattle.scope.specs.Wire.{number_at, numbers_at, field_checks}
 use Rattle.theory.specs.Wire.Octets.{number_in, numbers_length}
 use Rattle.theory.specs.Wire.Fields.{coefficient_refused, constant_left}
-use Rattle.records.specs.declared.nodes.NodeAnswer.{NodeAnswer}
+use Rattle.std.specs.Prelude.{Result, Ok, Err, Some, None}
+use Rattle.scope.specs.declared.Question.{Question}
 use Rattle.records.proofs.Checks.{first_failed, first_passed}
 use Rattle.fields.specs.Fields.{RowTaken, AtomTaken}
 
@@ -67,51 +69,52 @@ module _ (b : List ℕ) (start n cell : ℕ) (l₀ : List ℤ) where
           rest = rw (d, e) (rw (numbers_next b start n i h) at inv.rest);
         }
 
-    pub taken_not : (after : List ℤ) → i < n → coefficient_fits (number_at b (start + 4 * i)) ≡ false → RowTaken (numbers_at n b start) cell l₀ i after
-    taken_not after h f = record {
-      fits = record { most = omega (arith, numbers_length n b start); earlier = inv.fits; beyond = λ k. ap coefficient_fits (number_in n b start i (pos 0) h) ∙ f };
-      put = λ k. absurd (omega (arith, numbers_length n b start));
-    }
+    pub taken_not : (after : List ℤ) → i < n → coefficient_fits (number_at b (start + 4 * i)) ≡ false → RowTaken (numbers_at n b start) cell l₀ (Some i) after
+    taken_not after h f = (
+      record { most = omega (arith, numbers_length n b start); earlier = inv.fits; beyond = λ k. ap coefficient_fits (number_in n b start i (pos 0) h) ∙ f },
+      omega (arith, numbers_length n b start),
+    )
 
-    pub taken_whole : n ≤ i → RowTaken (numbers_at n b start) cell l₀ i l
-    taken_whole h = record {
-      fits = record { most = omega (arith, inv.within, numbers_length n b start); earlier = inv.fits; beyond = λ k. absurd (omega (arith, numbers_length n b start)) };
-      put = λ k. rw (numbers_done b start n i h) at inv.rest;
-    }
+    pub taken_whole : n ≤ i → RowTaken (numbers_at n b start) cell l₀ None l
+    taken_whole h =
+        let e : i ≡ length (numbers_at n b start) = omega (arith, inv.within, numbers_length n b start) in (
+          record { most = omega arith; earlier = rw e at inv.fits; beyond = λ k. absurd (omega arith) },
+          rw (numbers_done b start n i h) at inv.rest,
+        )
 
 -- ---- an atom, by its row and its constant
 
-module _ (b : List ℕ) (start n code atom fitting : ℕ) (coefficients₀ constants₀ coefficients₁ constants₁ : List ℤ) where
+module _ (b : List ℕ) (start n code atom : ℕ) (before after : Question) where
   abbrev row : List ℤ
   row = numbers_at n b start
 
   abbrev constant : ℤ
   constant = number_at b (start + 4 * n)
 
-  abbrev Taken : NodeAnswer → Type 0
-  Taken r = AtomTaken row constant start code atom coefficients₀ constants₀ r coefficients₁ constants₁
+  abbrev Taken : Result ℕ Refusal → Type 0
+  Taken r = AtomTaken row constant start code atom before r after
 
-  module _ (t : RowTaken row (most_variables * atom) coefficients₀ fitting coefficients₁) (put : constants₁ ≡ set constants₀ atom constant) where
-    atom_refused : (r : Refusal) → first_refusal (field_checks start 4 row constant) ≡ some r → Taken (NodeAnswer.Refused r)
-    atom_refused r e = record { answer = rw e; coefficients = λ c f. let z : ◌≡◌ {A = ℕ} 0 1 = cc in absurd (omega arith); constants = put }
+  module _ (same : (after.n ≡ before.n) × (after.codes ≡ before.codes)) (put : after.constants ≡ set before.constants atom constant) where
+    atom_refused : (r : Refusal) → first_refusal (field_checks start 4 row constant) ≡ some r → Taken (Err r)
+    atom_refused r e = record { answer = rw e; variables = same.0; codes = same.1; coefficients = λ c f. let z : ◌≡◌ {A = ℕ} 0 1 = cc in absurd (omega arith); constants = put }
 
-    pub coefficient_beyond : fitting < n → Taken (NodeAnswer.Refused (refusal COEFFICIENT_BEYOND (start + 4 * fitting)))
-    coefficient_beyond h = atom_refused (refusal COEFFICIENT_BEYOND (start + 4 * fitting)) (coefficient_refused 4 constant start row fitting t.fits (omega (arith, numbers_length n b start)))
+    module _ (fitting : ℕ) (t : RowTaken row (most_variables * atom) before.coefficients (Some fitting) after.coefficients) where
+      pub coefficient_beyond : Taken (Err (refusal Rule.CoefficientBeyond (start + 4 * fitting)))
+      coefficient_beyond = atom_refused (refusal Rule.CoefficientBeyond (start + 4 * fitting)) (coefficient_refused 4 constant start row fitting t.0 t.1)
 
-    module _ (h : n ≤ fitting) where
-      whole_row : length row ≤ fitting
-      whole_row = omega (arith, numbers_length n b start)
+    module _ (t : RowTaken row (most_variables * atom) before.coefficients None after.coefficients) where
+      last_field : first_refusal (field_checks start 4 row constant) ≡ first_refusal (check Rule.ConstantBeyond (start + 4 * n) (constant_fits constant) ∷ [])
+      last_field = rw (numbers_length n b start) at (constant_left 4 constant start row (length row) t.0 (omega arith))
 
-      last_field : first_refusal (field_checks start 4 row constant) ≡ first_refusal (check CONSTANT_BEYOND (start + 4 * n) (constant_fits constant) ∷ [])
-      last_field = rw (numbers_length n b start) at (constant_left 4 constant start row fitting t.fits whole_row)
+      pub constant_beyond : constant_fits constant ≡ false → Taken (Err (refusal Rule.ConstantBeyond (start + 4 * n)))
+      constant_beyond f = atom_refused (refusal Rule.ConstantBeyond (start + 4 * n)) (last_field ∙ first_failed Rule.ConstantBeyond (start + 4 * n) (constant_fits constant) [] f)
 
-      pub constant_beyond : constant_fits constant ≡ false → Taken (NodeAnswer.Refused (refusal CONSTANT_BEYOND (start + 4 * n)))
-      constant_beyond f = atom_refused (refusal CONSTANT_BEYOND (start + 4 * n)) (last_field ∙ first_failed CONSTANT_BEYOND (start + 4 * n) (constant_fits constant) [] f)
-
-      pub atom_taken : constant_fits constant ≡ true → Taken (NodeAnswer.Node code)
+      pub atom_taken : constant_fits constant ≡ true → Taken (Ok code)
       unfolding first_refusal
       atom_taken f = record {
-        answer = rw (last_field ∙ first_passed CONSTANT_BEYOND (start + 4 * n) (constant_fits constant) [] f);
-        coefficients = λ c g. t.put whole_row;
+        answer = rw (last_field ∙ first_passed Rule.ConstantBeyond (start + 4 * n) (constant_fits constant) [] f);
+        variables = same.0;
+        codes = same.1;
+        coefficients = λ c g. t.1;
         constants = put;
       }

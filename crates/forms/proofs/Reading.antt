@@ -1,13 +1,16 @@
 -- What `form_at` returns, by what stands behind the blanks.
-use Prim.Native.Nat.{ℕ, ◌+◌, ◌/◌, ◌%◌, ◌≤◌, ◌<◌}
+use Prim.Native.Nat.{ℕ, ◌+◌, ◌≤◌, ◌<◌}
 use native.Mathlib.Numerals.{add-one}
 use native.Mathlib.Omega.{arith}
-use mathlib.Core.Path.{◌≡◌, refl, sym, ap, ◌∙◌}
+use mathlib.Core.Path.{◌≡◌, refl, sym, ◌∙◌}
 use mathlib.Core.List.{List}
 use lib.ListN.{length, get_or}
-use Rattle.smtlib.specs.Lexicon.{AtHand, apart, Move, starts, move_of, state_after}
+use Rattle.smtlib.specs.Lexicon.{AtHand, apart, Move, stuck, starts, opens, closes, fresh, move_of}
 use Rattle.smtlib.specs.Forms.{bare_of}
-use Rattle.lexicon.specs.Codes.{move_code, state_named, state_named_lem, code_starts, code_skips, code_opens, code_closes, code_stuck, code_goes_on, code_state, code_kind_small}
+use Rattle.lexicon.specs.declared.moves.State.{State}
+use Rattle.lexicon.specs.declared.moves.Step.{Step}
+use Rattle.lexicon.specs.declared.moves.Step.TheVariants.{Skips, Starts, GoesOn, Opens, Closes, Stuck}
+use Rattle.lexicon.specs.Steps.{hand_of, move_said}
 use Rattle.lexicon.specs.Spots.{stretch}
 use Rattle.forms.specs.declared.Form.{Form}
 use Rattle.forms.specs.Read.{END, CLOSE, OPEN, NUMERAL, EndHere, CloseHere, OpenHere, WordHere, WordSays, FormRead, FormReads, FormStands, ListEnds, RestBehind}
@@ -58,9 +61,6 @@ module _ (text : List ℕ) (at depth : ℕ) (f : Form) where
         word_says = λ h. w;
       }
 
-only_five : (n : ℕ) → n ≤ 5 → (n ≡ 0 → ⊥) → (n ≡ 1 → ⊥) → (n ≡ 2 → ⊥) → (n ≡ 3 → ⊥) → (n ≡ 4 → ⊥) → n ≡ 5
-only_five n h a b c d e = omega arith
-
 module _ (text : List ℕ) (at place : ℕ) (k : BlankEnd text at place) where
   bare_stands : (kind next : ℕ) → kind ≤ 2 → ((kind ≡ END → ⊥) → place < next) → next ≤ length text → FormStands text at (formed kind place place place 0 next)
   bare_stands kind next small on inside =
@@ -78,67 +78,49 @@ module _ (text : List ℕ) (at place : ℕ) (k : BlankEnd text at place) where
   unfolding FormReads
   end_there h = (bare_stands END place (omega arith) (λ n. absurd (n refl)) k.inside, λ depth u. reads_end _ _ _ _ refl (end_here text at place depth k.past u h))
 
-  module _ (h : place < length text) (m : ℕ) (e : m ≡ move_code (move_of (state_named 0) (get_or text place 0))) where
-    move : Move
-    move = move_of apart (get_or text place 0)
+  module _ (h : place < length text) (m : Move) (e : m ≡ move_of apart (get_or text place 0)) where
+    pub open_there : m ≡ opens → FormStands text at (formed OPEN place place place 0 (place + 1)) × FormReads text at (formed OPEN place place place 0 (place + 1))
+    unfolding FormReads
+    open_there q = (
+      bare_stands OPEN (place + 1) (omega arith) (λ n. omega arith) (omega arith),
+      λ depth u. reads_open _ _ _ _ refl (rw add-one (open_here text at place depth k.past u h (sym e ∙ q))),
+    )
 
-    coded : m ≡ move_code move
-    unfolding move
-    coded = e ∙ ap (λ (s : AtHand). move_code (move_of s (get_or text place 0))) (state_named_lem apart)
-
-    pub open_there : m / 16 ≡ 3 → FormStands text at (formed OPEN place place place 0 (place + 1)) × FormReads text at (formed OPEN place place place 0 (place + 1))
-    unfolding FormReads move
-    open_there q =
-        let o = code_opens move (ap (λ (n : ℕ). n / 16) (sym coded) ∙ q) in (
-          bare_stands OPEN (place + 1) (omega arith) (λ n. omega arith) (omega arith),
-          λ depth u. reads_open _ _ _ _ refl (rw add-one (open_here text at place depth k.past u h o)),
-        )
-
-    pub close_there : m / 16 ≡ 4 → FormStands text at (formed CLOSE place place place 0 (place + 1)) × FormReads text at (formed CLOSE place place place 0 (place + 1))
-    unfolding FormReads move
-    close_there q =
-        let o = code_closes move (ap (λ (n : ℕ). n / 16) (sym coded) ∙ q) in (
-          bare_stands CLOSE (place + 1) (omega arith) (λ n. omega arith) (omega arith),
-          λ depth u. reads_close _ _ _ _ refl (rw add-one (close_here text at place depth k.past u h o)),
-        )
+    pub close_there : m ≡ closes → FormStands text at (formed CLOSE place place place 0 (place + 1)) × FormReads text at (formed CLOSE place place place 0 (place + 1))
+    unfolding FormReads
+    close_there q = (
+      bare_stands CLOSE (place + 1) (omega arith) (λ n. omega arith) (omega arith),
+      λ depth u. reads_close _ _ _ _ refl (rw add-one (close_here text at place depth k.past u h (sym e ∙ q))),
+    )
 
     -- a byte that is no blank, and starts and opens and closes nothing
-    pub stuck_there : (m / 16 ≡ 1 → ⊥) → (m / 16 ≡ 3 → ⊥) → (m / 16 ≡ 4 → ⊥) → FormStands text at (formed END place place place 0 place) × FormReads text at (formed END place place place 0 place)
-    unfolding FormReads move move_of
-    stuck_there no_start no-open no-close =
-        let q : move_code move / 16 ≡ m / 16 = ap (λ (n : ℕ). n / 16) (sym coded) in
-        let five =
-        only_five (move_code move / 16) (code_kind_small move)
-        (λ z. fresh_no_on (get_or text place 0) (state_after move) (code_goes_on move z))
-        (λ z. no_start (sym q ∙ z))
-        (λ z. k.no_blank h (state_after move) (code_skips move z))
-        (λ z. no-open (sym q ∙ z))
-        (λ z. no-close (sym q ∙ z)) in (
-          bare_stands END place (omega arith) (λ n. absurd (n refl)) k.inside,
-          λ depth u. absurd (never_stuck text at place depth k.past u h (code_stuck move five)),
-        )
+    pub stuck_there : (t : Step) → move_said t ≡ m → ((s : State) → t ≡ Starts s → ⊥) → (t ≡ Opens → ⊥) → (t ≡ Closes → ⊥) → FormStands text at (formed END place place place 0 place) × FormReads text at (formed END place place place 0 place)
+    unfolding FormReads move_of
+    stuck_there t z no_start no-open no-close = (
+      bare_stands END place (omega arith) (λ n. absurd (n refl)) k.inside,
+      λ depth u. absurd (go t (z ∙ e) no_start no-open no-close (λ q. never_stuck text at place depth k.past u h (sym e ∙ sym z ∙ q))),
+    )
+      where
+        go : (t : Step) → move_said t ≡ fresh (get_or text place 0) → ((s : State) → t ≡ Starts s → ⊥) → (t ≡ Opens → ⊥) → (t ≡ Closes → ⊥) → (move_said t ≡ stuck → ⊥) → ⊥
+        go Stuck f no_start no-open no-close no-stuck = no-stuck refl
+        go (Skips s) f no_start no-open no-close no-stuck = k.no_blank h (hand_of s) (sym f)
+        go (Starts s) f no_start no-open no-close no-stuck = no_start s refl
+        go (GoesOn s) f no_start no-open no-close no-stuck = fresh_no_on (get_or text place 0) (hand_of s) (sym f)
+        go Opens f no_start no-open no-close no-stuck = no-open refl
+        go Closes f no_start no-open no-close no-stuck = no-close refl
 
-    module _ (q : m / 16 ≡ 1) where
-      first : Afresh (get_or text place 0) (starts (state_after move))
-      unfolding move move_of
-      first = rw (code_starts move (ap (λ (n : ℕ). n / 16) (sym coded) ∙ q)) at (fresh_told (get_or text place 0))
+    module _ (s : AtHand) (q : m ≡ starts s) where
+      first : Afresh (get_or text place 0) (starts s)
+      unfolding move_of
+      first = rw (sym e ∙ q) at (fresh_told (get_or text place 0))
 
-      pub starts_there : (next : ℕ) → place + 1 ≤ next → next ≤ length text → WordStarts text place next (m % 16)
-      starts_there next l inside =
-          record {
-            some_bytes = omega arith;
-            inside = inside;
-            s = state_after move;
-            first = first;
-            coded = ap (λ (n : ℕ). n % 16) coded ∙ code_state move;
-          }
+      pub starts_there : (next : ℕ) → place + 1 ≤ next → next ≤ length text → WordStarts text place next s
+      starts_there next l inside = record { some_bytes = omega arith; inside = inside; first = first }
 
-      pub word_there : (next : ℕ) → TokenEnd text (place + 1) (m % 16) next → (f : Form) → WordRead text place next f → FormStands text at f × FormReads text at f
-      unfolding FormReads move
+      pub word_there : (next : ℕ) → TokenEnd text (place + 1) s next → (f : Form) → WordRead text place next f → FormStands text at f × FormReads text at f
+      unfolding FormReads
       word_there next t f w =
-          let named : state_named (m % 16) ≡ state_after move = ap (λ (n : ℕ). state_named (n % 16)) coded ∙ ap state_named (code_state move) ∙ state_named_lem (state_after move) in
-          let ends = rw (named, add-one) at (t.ends (λ z. starts_no_comment _ (state_after move) first (sym named ∙ z))) in
-          let o = code_starts move (ap (λ (n : ℕ). n / 16) (sym coded) ∙ q) in (
+          let ends = rw add-one at (t.ends (starts_no_comment _ s first)) in (
             record {
               kind_known = w.kind_known;
               not_before = omega (arith, k.not_before, w.place_is);
@@ -149,7 +131,7 @@ module _ (text : List ℕ) (at place : ℕ) (k : BlankEnd text at place) where
               spelt_from = λ h. rw w.place_is (w.spelt_from h);
             },
             λ depth u.
-                let here = word_here text at place depth k.past u h (state_after move) next o (omega (arith, t.not_before)) ends in
+                let here = word_here text at place depth k.past u h s next (sym e ∙ q) (omega (arith, t.not_before)) ends in
                 let same : bare_of (stretch text place next) ≡ bare_of (stretch text f.place f.next) = rw (w.place_is, w.next_is) in
                 reads_word _ _ _ f w.is_word (rw (w.place_is, w.next_is) here) (rw same at w.says),
           )

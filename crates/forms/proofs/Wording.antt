@@ -6,11 +6,12 @@ use native.Mathlib.Omega.{arith}
 use mathlib.Core.Path.{◌≡◌, refl, sym, ap, ◌∙◌}
 use mathlib.Core.Bool.{true, false, cond}
 use mathlib.Core.List.{List}
+use mathlib.Core.Logic.{◌⊎◌}
 use lib.ListN.{length, get_or, take, drop, length-drop}
 use lib.Seq.{take-take, length-take-le}
-use Rattle.scope.specs.Whole.{all}
+use Rattle.std.specs.List.{list_all}
 use Rattle.smtlib.specs.Spelling.{is_in, reserved_words}
-use Rattle.smtlib.specs.Lexicon.{is_digit}
+use Rattle.smtlib.specs.Lexicon.{AtHand, nought, digits, bars, is_digit}
 use Rattle.smtlib.specs.Forms.{Bare, numeral, symbol, reserved, other_word, numeral_from, bare_of}
 use Rattle.lexicon.specs.Spots.{stretch}
 use Rattle.forms.specs.declared.Form.{Form}
@@ -76,13 +77,13 @@ module _ (text : List ℕ) (place next : ℕ) where
       }
 
   module _ (p : NumeralStarts text place next) where
-    all_digits : bare_of (stretch text place next) ≡ cond (all is_digit (stretch text place next)) (numeral (numeral_from 0 (stretch text place next))) other_word
+    all_digits : bare_of (stretch text place next) ≡ cond (list_all is_digit (stretch text place next)) (numeral (numeral_from 0 (stretch text place next))) other_word
     all_digits = rw (stretch_more text place next p.some_bytes (omega arith)) (digits_bare (get_or text place 0) _ p.digit_there)
 
-    pub no_numeral : all is_digit (stretch text place next) ≡ false → WordRead text place next (formed OTHER place place place 0 next)
+    pub no_numeral : list_all is_digit (stretch text place next) ≡ false → WordRead text place next (formed OTHER place place place 0 next)
     no_numeral e = other_read p.some_bytes p.inside (rw e at all_digits)
 
-    pub numeral_read : (v : ℕ) → all is_digit (stretch text place next) ≡ true → clipped (numeral_from 0 (stretch text place next)) ≡ v → WordRead text place next (formed NUMERAL place place place v next)
+    pub numeral_read : (v : ℕ) → list_all is_digit (stretch text place next) ≡ true → clipped (numeral_from 0 (stretch text place next)) ≡ v → WordRead text place next (formed NUMERAL place place place v next)
     numeral_read v e c =
         record {
           place_is = refl;
@@ -149,17 +150,15 @@ module _ (text : List ℕ) (place next : ℕ) where
 
   -- ---- by the state behind its first byte
 
-  module _ (state : ℕ) (p : WordStarts text place next state) where
-    pub symbol_starts : state ≡ 12 → SymbolStarts text place next
-    symbol_starts e = record { some_bytes = p.some_bytes; inside = p.inside; letter_there = letter_first _ p.s p.first (sym p.coded ∙ e) }
+  module _ (s : AtHand) (p : WordStarts text place next s) where
+    pub symbol_starts : s ≡ AtHand.symbol → SymbolStarts text place next
+    symbol_starts e = record { some_bytes = p.some_bytes; inside = p.inside; letter_there = letter_first _ s p.first e }
 
-    pub numeral_starts : state ≤ 3 → NumeralStarts text place next
-    numeral_starts h = record { some_bytes = p.some_bytes; inside = p.inside; digit_there = digit_first _ p.s p.first (omega (arith, p.coded)) }
+    pub numeral_starts : (s ≡ nought) ⊎ (s ≡ digits) → NumeralStarts text place next
+    numeral_starts e = record { some_bytes = p.some_bytes; inside = p.inside; digit_there = digit_first _ s p.first e }
 
-    pub barred_word : state ≡ 15 → (to : ℕ) → (place + 1 ≤ to) × (to ≤ next) × (to - (place + 1) ≡ next - (place + 1) - 1) → WordRead text place next (formed SYMBOL place (place + 1) to 0 next)
-    barred_word e = barred_read p.some_bytes p.inside (bar_first _ p.s p.first (sym p.coded ∙ e))
+    pub barred_word : s ≡ bars → (to : ℕ) → (place + 1 ≤ to) × (to ≤ next) × (to - (place + 1) ≡ next - (place + 1) - 1) → WordRead text place next (formed SYMBOL place (place + 1) to 0 next)
+    barred_word e = barred_read p.some_bytes p.inside (bar_first _ s p.first e)
 
-    pub other_word_lem : (state ≡ 12 → ⊥) → 3 < state → (state ≡ 15 → ⊥) → WordRead text place next (formed OTHER place place place 0 next)
-    other_word_lem no_letter high no_bar =
-        other_word_read p.some_bytes p.inside
-        (other_first _ p.s p.first (omega (arith, p.coded)) (λ e. no_letter (p.coded ∙ e)) (λ e. no_bar (p.coded ∙ e)))
+    pub other_word_lem : ((s ≡ nought) ⊎ (s ≡ digits) → ⊥) → (s ≡ AtHand.symbol → ⊥) → (s ≡ bars → ⊥) → WordRead text place next (formed OTHER place place place 0 next)
+    other_word_lem no_digit no_letter no_bar = other_word_read p.some_bytes p.inside (other_first _ s p.first no_digit no_letter no_bar)

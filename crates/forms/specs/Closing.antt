@@ -1,5 +1,5 @@
 -- Byte by byte to the end of the list at hand, with so many lists opened since.
-use Prim.Native.Nat.{ℕ, suc, ◌+◌, ◌-◌, ◌/◌, ◌≤◌, ◌<◌}
+use Prim.Native.Nat.{ℕ, suc, ◌+◌, ◌-◌, ◌≤◌, ◌<◌}
 use Rattle.std.proofs.Math.Nat.{zero-add}
 use native.Mathlib.Omega.{arith}
 use Rattle.std.specs.Prelude.{◌≡◌, refl, Bool, true, false, cond, ◌&&◌, List, [], ◌∷◌, length, get_or}
@@ -10,10 +10,11 @@ use Rattle.std.proofs.Math.Option.{none}
 use Rattle.std.proofs.Math.Dec.{eqb}
 use Rattle.std.proofs.Math.ListN.{drop}
 use Rattle.std.proofs.Math.Seq.{drop-nil}
-use borrow.Author.Tests.{eqb-true}
+use borrow.Author.Tests.{eqb-true, eqb-false}
+use Rattle.std.specs.Prelude.{Option, Some, None}
+use Rattle.std.proofs.lemmas.Option.{same_Some, none-some}
 use Rattle.smtlib.specs.Lexicon.{AtHand, apart, Move, stuck, skips, starts, goes_on, opens, closes, move_of, state_after, depth_after, complete, broken_from, Lexed, taken}
 use Rattle.smtlib.specs.Forms.{Bare, Forms, enclosed, before, bare_of, levels_of}
-use Rattle.lexicon.specs.Codes.{move_code, move_kind, code_kind}
 use Rattle.forms.specs.Places.{levels_at, outer, around, Unbroken}
 use Rattle.forms.specs.Read.{ListEnds}
 use Rattle.forms.specs.Moves.{levels_from, UnbrokenFrom, levels_apart, unbroken_apart, apart_unbroken, goes_on_past, lexed_step, unbroken_step}
@@ -56,29 +57,40 @@ depth_moved (goes_on s) left depth k = refl
 depth_moved opens left depth k = omega arith
 depth_moved closes left depth k = let h = k refl in omega arith
 
--- the lists that are open behind a byte, by the number of its move
-abbrev pub left_after : ℕ → ℕ → ℕ
-left_after left m = cond (eqb (m / 16) 3) (left + 1) (cond (eqb (m / 16) 4) (left - 1) left)
+-- the lists that are open behind a byte, unless it closes the list at hand
+unfoldable pub left_after : Move → ℕ → Option ℕ
+left_after stuck left = Some left
+left_after (skips s) left = Some left
+left_after (starts s) left = Some left
+left_after (goes_on s) left = Some left
+left_after opens left = Some (suc left)
+left_after closes left = cond (eqb left 0) None (Some (left - 1))
 
-pub left_after_small : (left m : ℕ) → left_after left m ≤ left + 1
-left_after_small left m = go (eqb (m / 16) 3) (eqb (m / 16) 4)
+pub left_goes : (m : Move) (left more : ℕ) → left_after m left ≡ Some more → (m ≡ closes → 0 < left) × (depth_after m left ≡ more)
+unfolding left_after depth_after
+left_goes stuck left more e = ((λ f. let z : ◌≡◌ {A = ℕ} 0 1 = cc in absurd (omega arith)), same_Some left more e)
+left_goes (skips s) left more e = ((λ f. let z : ◌≡◌ {A = ℕ} 0 1 = cc in absurd (omega arith)), same_Some left more e)
+left_goes (starts s) left more e = ((λ f. let z : ◌≡◌ {A = ℕ} 0 1 = cc in absurd (omega arith)), same_Some left more e)
+left_goes (goes_on s) left more e = ((λ f. let z : ◌≡◌ {A = ℕ} 0 1 = cc in absurd (omega arith)), same_Some left more e)
+left_goes opens left more e = ((λ f. let z : ◌≡◌ {A = ℕ} 0 1 = cc in absurd (omega arith)), same_Some (suc left) more e)
+left_goes closes left more e = go (eqb left 0) refl e
   where
-    go : (s t : Bool) → cond s (left + 1) (cond t (left - 1) left) ≤ left + 1
-    go true t = omega arith
-    go false true = omega arith
-    go false false = omega arith
+    go : (t : Bool) → eqb left 0 ≡ t → cond t None (Some (left - 1)) ≡ Some more → (closes ≡ closes → 0 < left) × (left - 1 ≡ more)
+    go true p e = absurd (none-some more e)
+    go false p e = ((λ f. let n : left ≡ 0 → ⊥ = eqb-false left 0 p in omega arith), same_Some (left - 1) more e)
 
-pub left_after_is : (left m : ℕ) (move : Move) → m ≡ move_code move → left_after left m ≡ depth_after move left
-unfolding depth_after
-left_after_is left m move e = rw (e, code_kind move) (go move)
+pub left_closed : (m : Move) (left : ℕ) → left_after m left ≡ None → (m ≡ closes) × (left ≡ 0)
+unfolding left_after
+left_closed stuck left e = absurd (none-some left (sym e))
+left_closed (skips s) left e = absurd (none-some left (sym e))
+left_closed (starts s) left e = absurd (none-some left (sym e))
+left_closed (goes_on s) left e = absurd (none-some left (sym e))
+left_closed opens left e = absurd (none-some (suc left) (sym e))
+left_closed closes left e = go (eqb left 0) refl e
   where
-    go : (move : Move) → cond (eqb (move_kind move) 3) (left + 1) (cond (eqb (move_kind move) 4) (left - 1) left) ≡ depth_after move left
-    go stuck = refl
-    go (skips s) = refl
-    go (starts s) = refl
-    go (goes_on s) = refl
-    go opens = omega arith
-    go closes = refl
+    go : (t : Bool) → eqb left 0 ≡ t → cond t None (Some (left - 1)) ≡ None → (closes ≡ closes) × (left ≡ 0)
+    go true p e = (refl, eqb-true left 0 p)
+    go false p e = absurd (none-some (left - 1) (sym e))
 
 module _ (text : List ℕ) (at : ℕ) where
   pub inside_starts : WalkedWithin text at at apart 0

@@ -6,7 +6,7 @@ use Rattle.std.proofs.Math.Path.{ap}
 use Rattle.std.proofs.Math.Bool.{and-eq-true_iff}
 use mathlib.Core.List.{List, [], ◌∷◌}
 use Rattle.std.proofs.lemmas.Bool.{lt-leb}
-use Rattle.scope.specs.Whole.{all}
+use Rattle.std.specs.List.{list_all}
 use Rattle.smtlib.specs.Lexicon.{is_digit}
 use Rattle.smtlib.specs.Forms.{numeral_from}
 use Rattle.smtlib.specs.Terms.{most_numeral}
@@ -61,7 +61,7 @@ clipped_small v = go (leb v most_numeral) refl
 -- ---- digit by digit
 
 pub record DigitsSoFar (text : List ℕ) (place next i v : ℕ) : Type 0 where
-  pub digits : all is_digit (stretch text place next) ≡ all is_digit (stretch text i next)
+  pub digits : list_all is_digit (stretch text place next) ≡ list_all is_digit (stretch text i next)
   pub value : clipped (numeral_from 0 (stretch text place next)) ≡ clipped (numeral_from v (stretch text i next))
   pub small : v ≤ suc most_numeral
 
@@ -70,26 +70,25 @@ module _ (text : List ℕ) (place next : ℕ) where
   digits_start = record { digits = refl; value = refl; small = omega arith }
 
   module _ (i v : ℕ) (so_far : DigitsSoFar text place next i v) where
-    pub digits_end : next ≤ i → (all is_digit (stretch text place next) ≡ true) × (clipped (numeral_from 0 (stretch text place next)) ≡ v)
-    unfolding all numeral_from
+    pub digits_end : next ≤ i → (list_all is_digit (stretch text place next) ≡ true) × (clipped (numeral_from 0 (stretch text place next)) ≡ v)
+    unfolding numeral_from
     digits_end h =
         let none_left = stretch_none text i next h in (
-          so_far.digits ∙ ap (all is_digit) none_left,
+          so_far.digits ∙ ap (list_all is_digit) none_left,
           so_far.value ∙ ap (λ (ds : List ℕ). clipped (numeral_from v ds)) none_left ∙ clipped_same v so_far.small,
         )
 
     module _ (h : i < next) (inside : i < length text) where
-      pub digits_stop : is_digit (get_or text i 0) ≡ false → all is_digit (stretch text place next) ≡ false
-      unfolding all
-      digits_stop e = so_far.digits ∙ ap (all is_digit) (stretch_more text i next h inside) ∙ rw e
+      pub digits_stop : is_digit (get_or text i 0) ≡ false → list_all is_digit (stretch text place next) ≡ false
+      digits_stop e = so_far.digits ∙ ap (list_all is_digit) (stretch_more text i next h inside) ∙ rw e
 
       pub digits_on : is_digit (get_or text i 0) ≡ true → (w : ℕ) → w ≡ clipped (10 * v + (get_or text i 0 - code "0")) → DigitsSoFar text place next (suc i) w
-      unfolding all numeral_from
+      unfolding numeral_from
       digits_on e w f =
           let n = 10 * v + (get_or text i 0 - code "0") in
           let more = stretch_more text i next h inside in
           record {
-            digits = so_far.digits ∙ ap (all is_digit) more ∙ ap (λ (t : Bool). t && all is_digit (stretch text (suc i) next)) e;
+            digits = so_far.digits ∙ ap (list_all is_digit) more ∙ ap (λ (t : Bool). t && list_all is_digit (stretch text (suc i) next)) e;
             value = so_far.value ∙ ap (λ (ds : List ℕ). clipped (numeral_from v ds)) more ∙ clipped_onward n w (stretch text (suc i) next) (sym (ap clipped f ∙ clipped_same _ (clipped_small n)));
             small = rw f (clipped_small n);
           }

@@ -1,11 +1,10 @@
--- A move by its number, where no token is at hand: 2 is its kind exactly if the byte is skipped.
-use Rattle.std.specs.Prelude.{ℕ, ◌/◌, ◌%◌, ◌≡◌, Bool, cond, ◌||◌}
+-- A byte that is skipped where no token is at hand: none is at hand behind it.
+use Rattle.std.specs.Prelude.{ℕ, ◌≡◌, Bool, cond, ◌||◌}
 use native.Mathlib.Omega.{arith}
 use Rattle.std.proofs.Math.Path.{refl}
 use Rattle.std.proofs.Math.Bool.{true, false}
 use Rattle.std.proofs.Math.Dec.{eqb}
 use Rattle.smtlib.specs.Lexicon.{AtHand, apart, comment, Move, skips, fresh, move_of}
-use Rattle.lexicon.specs.Codes.{state_code, move_code}
 use Rattle.forms.specs.FirstBytes.{Afresh, blank, semicolon, opened, closed, lone_nought, digit, hashed, keyed, quoted, barred, lettered, none_starts, fresh_told}
 
 -- no token is at hand
@@ -13,41 +12,35 @@ pub data Idle : AtHand → Type 0 where
   idle : Idle apart
   remarking : Idle comment
 
-pub record Skipped (s : AtHand) (b m : ℕ) : Type 0 where
-  pub after : AtHand
-  pub no_token : Idle after
-  pub move : move_of s b ≡ skips after
-  pub coded : m % 16 ≡ state_code after
-
-module _ (b m : ℕ) where
-  pub skip_told : (s : AtHand) → Idle s → m ≡ move_code (move_of s b) → m / 16 ≡ 2 → Skipped s b m
+module _ (b : ℕ) where
+  pub skips_idle : (s after : AtHand) → Idle s → move_of s b ≡ skips after → Idle after
   unfolding move_of
-  skip_told s idle e k = go (fresh b) (fresh_told b) refl e
+  skips_idle s after idle e = go (fresh b) (fresh_told b) e
     where
-      go : (n : Move) → Afresh b n → fresh b ≡ n → m ≡ move_code n → Skipped apart b m
-      go n blank f c = record { after = apart; no_token = idle; move = f; coded = omega arith }
-      go n semicolon f c = record { after = comment; no_token = remarking; move = f; coded = omega arith }
-      go n opened f c = absurd (omega arith)
-      go n closed f c = absurd (omega arith)
-      go n (lone_nought x) f c = absurd (omega arith)
-      go n (digit x) f c = absurd (omega arith)
-      go n (hashed x) f c = absurd (omega arith)
-      go n (keyed x) f c = absurd (omega arith)
-      go n (quoted x) f c = absurd (omega arith)
-      go n (barred x) f c = absurd (omega arith)
-      go n (lettered x y z) f c = absurd (omega arith)
-      go n none_starts f c = absurd (omega arith)
-  skip_told s remarking e k = go (eqb b 10 || eqb b 13) refl e
+      go : (m : Move) → Afresh b m → m ≡ skips after → Idle after
+      go m blank f = let z : apart ≡ after = cc in rw (← z) idle
+      go m semicolon f = let z : comment ≡ after = cc in rw (← z) remarking
+      go m opened f = let z : ◌≡◌ {A = ℕ} 0 1 = cc in absurd (omega arith)
+      go m closed f = let z : ◌≡◌ {A = ℕ} 0 1 = cc in absurd (omega arith)
+      go m (lone_nought x) f = let z : ◌≡◌ {A = ℕ} 0 1 = cc in absurd (omega arith)
+      go m (digit x) f = let z : ◌≡◌ {A = ℕ} 0 1 = cc in absurd (omega arith)
+      go m (hashed x) f = let z : ◌≡◌ {A = ℕ} 0 1 = cc in absurd (omega arith)
+      go m (keyed x) f = let z : ◌≡◌ {A = ℕ} 0 1 = cc in absurd (omega arith)
+      go m (quoted x) f = let z : ◌≡◌ {A = ℕ} 0 1 = cc in absurd (omega arith)
+      go m (barred x) f = let z : ◌≡◌ {A = ℕ} 0 1 = cc in absurd (omega arith)
+      go m (lettered x y z) f = let z : ◌≡◌ {A = ℕ} 0 1 = cc in absurd (omega arith)
+      go m none_starts f = let z : ◌≡◌ {A = ℕ} 0 1 = cc in absurd (omega arith)
+  skips_idle s after remarking e = go (eqb b 10 || eqb b 13) e
     where
-      go : (t : Bool) → eqb b 10 || eqb b 13 ≡ t → m ≡ move_code (cond t (skips apart) (skips comment)) → Skipped comment b m
-      go true f c = record { after = apart; no_token = idle; move = rw f; coded = omega arith }
-      go false f c = record { after = comment; no_token = remarking; move = rw f; coded = omega arith }
+      go : (t : Bool) → cond t (skips apart) (skips comment) ≡ skips after → Idle after
+      go true f = let z : apart ≡ after = cc in rw (← z) idle
+      go false f = let z : comment ≡ after = cc in rw (← z) remarking
 
-  pub no_skip_apart : (s : AtHand) → Idle s → m ≡ move_code (move_of s b) → (m / 16 ≡ 2 → ⊥) → s ≡ apart
+  pub no_skip_apart : (s : AtHand) → Idle s → ((after : AtHand) → move_of s b ≡ skips after → ⊥) → s ≡ apart
   unfolding move_of
-  no_skip_apart s idle e k = refl
-  no_skip_apart s remarking e k = go (eqb b 10 || eqb b 13) e
+  no_skip_apart s idle k = refl
+  no_skip_apart s remarking k = go (eqb b 10 || eqb b 13) k
     where
-      go : (t : Bool) → m ≡ move_code (cond t (skips apart) (skips comment)) → comment ≡ apart
-      go true c = absurd (k (omega arith))
-      go false c = absurd (k (omega arith))
+      go : (t : Bool) → ((after : AtHand) → cond t (skips apart) (skips comment) ≡ skips after → ⊥) → comment ≡ apart
+      go true k = absurd (k apart refl)
+      go false k = absurd (k comment refl)

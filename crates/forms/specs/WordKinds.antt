@@ -1,12 +1,11 @@
 -- Which word it is by its first byte, and by the state behind that.
-use Rattle.std.specs.Prelude.{ℕ, ◌-◌, ◌≤◌, ◌<◌, ◌≡◌, refl, Bool, true, false, cond, List, ◌∷◌, length, take}
-use Rattle.std.proofs.Common.{arith}
+use Rattle.std.specs.Prelude.{ℕ, ◌-◌, ◌≡◌, ◌⊎◌, refl, Bool, true, false, cond, List, ◌∷◌, length, take}
+use Rattle.std.proofs.Common.{arith, inl, inr, ⊎_elim}
 use Prim.Native.Char.{code}
-use Rattle.scope.specs.Whole.{all}
+use Rattle.std.specs.List.{list_all}
 use Rattle.smtlib.specs.Spelling.{is_in, reserved_words}
-use Rattle.smtlib.specs.Lexicon.{AtHand, comment, starts, among, is, is_digit, is_letter, symbol_first}
+use Rattle.smtlib.specs.Lexicon.{AtHand, comment, nought, digits, bars, starts, among, is, is_digit, is_letter, symbol_first}
 use Rattle.smtlib.specs.Forms.{numeral, symbol, reserved, other_word, numeral_from, bare_of}
-use Rattle.lexicon.specs.Codes.{state_code}
 use Rattle.forms.specs.FirstBytes.{Afresh, lone_nought, digit, hashed, keyed, quoted, barred, lettered}
 
 module _ (b : ℕ) where
@@ -19,24 +18,24 @@ module _ (b : ℕ) where
   starts_no_comment s (barred x) e = let z : ◌≡◌ {A = ℕ} 0 1 = cc in omega arith
   starts_no_comment s (lettered x y z) e = let z : ◌≡◌ {A = ℕ} 0 1 = cc in omega arith
 
-  pub digit_first : (s : AtHand) → Afresh b (starts s) → state_code s ≤ 3 → is_digit b ≡ true
+  pub digit_first : (s : AtHand) → Afresh b (starts s) → (s ≡ nought) ⊎ (s ≡ digits) → is_digit b ≡ true
   unfolding is_digit
   digit_first s (lone_nought x) h = rw x
   digit_first s (digit x) h = x
-  digit_first s (hashed x) h = absurd (omega arith)
-  digit_first s (keyed x) h = absurd (omega arith)
-  digit_first s (quoted x) h = absurd (omega arith)
-  digit_first s (barred x) h = absurd (omega arith)
-  digit_first s (lettered x y z) h = absurd (omega arith)
+  digit_first s (hashed x) h = ⊎_elim (λ e. let z : ◌≡◌ {A = ℕ} 0 1 = cc in absurd (omega arith)) (λ e. let z : ◌≡◌ {A = ℕ} 0 1 = cc in absurd (omega arith)) h
+  digit_first s (keyed x) h = ⊎_elim (λ e. let z : ◌≡◌ {A = ℕ} 0 1 = cc in absurd (omega arith)) (λ e. let z : ◌≡◌ {A = ℕ} 0 1 = cc in absurd (omega arith)) h
+  digit_first s (quoted x) h = ⊎_elim (λ e. let z : ◌≡◌ {A = ℕ} 0 1 = cc in absurd (omega arith)) (λ e. let z : ◌≡◌ {A = ℕ} 0 1 = cc in absurd (omega arith)) h
+  digit_first s (barred x) h = ⊎_elim (λ e. let z : ◌≡◌ {A = ℕ} 0 1 = cc in absurd (omega arith)) (λ e. let z : ◌≡◌ {A = ℕ} 0 1 = cc in absurd (omega arith)) h
+  digit_first s (lettered x y z) h = ⊎_elim (λ e. let z : ◌≡◌ {A = ℕ} 0 1 = cc in absurd (omega arith)) (λ e. let z : ◌≡◌ {A = ℕ} 0 1 = cc in absurd (omega arith)) h
 
-  pub bar_first : (s : AtHand) → Afresh b (starts s) → state_code s ≡ 15 → b ≡ code "|"
-  bar_first s (lone_nought x) h = absurd (omega arith)
-  bar_first s (digit x) h = absurd (omega arith)
-  bar_first s (hashed x) h = absurd (omega arith)
-  bar_first s (keyed x) h = absurd (omega arith)
-  bar_first s (quoted x) h = absurd (omega arith)
+  pub bar_first : (s : AtHand) → Afresh b (starts s) → s ≡ bars → b ≡ code "|"
+  bar_first s (lone_nought x) h = let z : ◌≡◌ {A = ℕ} 0 1 = cc in absurd (omega arith)
+  bar_first s (digit x) h = let z : ◌≡◌ {A = ℕ} 0 1 = cc in absurd (omega arith)
+  bar_first s (hashed x) h = let z : ◌≡◌ {A = ℕ} 0 1 = cc in absurd (omega arith)
+  bar_first s (keyed x) h = let z : ◌≡◌ {A = ℕ} 0 1 = cc in absurd (omega arith)
+  bar_first s (quoted x) h = let z : ◌≡◌ {A = ℕ} 0 1 = cc in absurd (omega arith)
   bar_first s (barred x) h = x
-  bar_first s (lettered x y z) h = absurd (omega arith)
+  bar_first s (lettered x y z) h = let z : ◌≡◌ {A = ℕ} 0 1 = cc in absurd (omega arith)
 
   -- what bare_of tests of a first byte that is no digit
   pub record Signed (symbolic : Bool) : Type 0 where
@@ -44,19 +43,19 @@ module _ (b : ℕ) where
     pub no_bar : is "|" b ≡ false
     pub letter : symbol_first b ≡ symbolic
 
-  pub letter_first : (s : AtHand) → Afresh b (starts s) → state_code s ≡ 12 → Signed true
-  letter_first s (lone_nought x) h = absurd (omega arith)
-  letter_first s (digit x) h = absurd (omega arith)
-  letter_first s (hashed x) h = absurd (omega arith)
-  letter_first s (keyed x) h = absurd (omega arith)
-  letter_first s (quoted x) h = absurd (omega arith)
-  letter_first s (barred x) h = absurd (omega arith)
+  pub letter_first : (s : AtHand) → Afresh b (starts s) → s ≡ AtHand.symbol → Signed true
+  letter_first s (lone_nought x) h = let z : ◌≡◌ {A = ℕ} 0 1 = cc in absurd (omega arith)
+  letter_first s (digit x) h = let z : ◌≡◌ {A = ℕ} 0 1 = cc in absurd (omega arith)
+  letter_first s (hashed x) h = let z : ◌≡◌ {A = ℕ} 0 1 = cc in absurd (omega arith)
+  letter_first s (keyed x) h = let z : ◌≡◌ {A = ℕ} 0 1 = cc in absurd (omega arith)
+  letter_first s (quoted x) h = let z : ◌≡◌ {A = ℕ} 0 1 = cc in absurd (omega arith)
+  letter_first s (barred x) h = let z : ◌≡◌ {A = ℕ} 0 1 = cc in absurd (omega arith)
   letter_first s (lettered x y z) h = record { no_digit = x; no_bar = y; letter = z }
 
-  pub other_first : (s : AtHand) → Afresh b (starts s) → 3 < state_code s → (state_code s ≡ 12 → ⊥) → (state_code s ≡ 15 → ⊥) → Signed false
+  pub other_first : (s : AtHand) → Afresh b (starts s) → ((s ≡ nought) ⊎ (s ≡ digits) → ⊥) → (s ≡ AtHand.symbol → ⊥) → (s ≡ bars → ⊥) → Signed false
   unfolding is_digit symbol_first is_letter among
-  other_first s (lone_nought x) h k l = absurd (omega arith)
-  other_first s (digit x) h k l = absurd (omega arith)
+  other_first s (lone_nought x) h k l = absurd (h (inl refl))
+  other_first s (digit x) h k l = absurd (h (inr refl))
   other_first s (hashed x) h k l = record { no_digit = rw x; no_bar = rw x; letter = rw x }
   other_first s (keyed x) h k l = record { no_digit = rw x; no_bar = rw x; letter = rw x }
   other_first s (quoted x) h k l = record { no_digit = rw x; no_bar = rw x; letter = rw x }
@@ -64,8 +63,8 @@ module _ (b : ℕ) where
   other_first s (lettered x y z) h k l = absurd (k refl)
 
   module _ (bs : List ℕ) where
-    pub digits_bare : is_digit b ≡ true → bare_of (b ∷ bs) ≡ cond (all is_digit (b ∷ bs)) (numeral (numeral_from 0 (b ∷ bs))) other_word
-    unfolding bare_of all
+    pub digits_bare : is_digit b ≡ true → bare_of (b ∷ bs) ≡ cond (list_all is_digit (b ∷ bs)) (numeral (numeral_from 0 (b ∷ bs))) other_word
+    unfolding bare_of
     digits_bare e = rw e
 
     pub barred_bare : b ≡ code "|" → bare_of (b ∷ bs) ≡ symbol (take (length bs - 1) bs)

@@ -4,7 +4,6 @@ use Rattle.smtlib.specs.Lexicon.{AtHand, apart, comment, skips, starts, is_digit
 use Rattle.smtlib.specs.Forms.{bare_of}
 use Rattle.smtlib.specs.Terms.{most_numeral}
 use Rattle.smtlib.specs.Imported.{spelt_from}
-use Rattle.lexicon.specs.Codes.{state_code, state_named}
 use Rattle.lexicon.specs.Spots.{stretch}
 use Rattle.forms.specs.declared.Form.{Form}
 use Rattle.forms.specs.Read.{NUMERAL, SYMBOL, OTHER, WordSays}
@@ -22,18 +21,16 @@ pub record BlankEnd (text : List ℕ) (at r : ℕ) : Type 0 where
   pub past : BlanksPast text at apart r
   pub no_blank : r < length text → (after : AtHand) → move_of apart (get_or text r 0) ≡ skips after → ⊥
 
-pub record TokenEnd (text : List ℕ) (at state r : ℕ) : Type 0 where
+pub record TokenEnd (text : List ℕ) (at : ℕ) (s : AtHand) (r : ℕ) : Type 0 where
   pub not_before : at ≤ r
   pub inside : r ≤ length text
-  pub ends : (state_named state ≡ comment → ⊥) → TokenEnds text at (state_named state) r
+  pub ends : (s ≡ comment → ⊥) → TokenEnds text at s r
 
 -- by its first byte a word starts there, with this at hand behind it
-pub record WordStarts (text : List ℕ) (place next state : ℕ) : Type 0 where
+pub record WordStarts (text : List ℕ) (place next : ℕ) (s : AtHand) : Type 0 where
   pub some_bytes : place < next
   pub inside : next ≤ length text
-  pub s : AtHand
   pub first : Afresh (get_or text place 0) (starts s)
-  pub coded : state ≡ state_code s
 
 pub record NumeralStarts (text : List ℕ) (place next : ℕ) : Type 0 where
   pub some_bytes : place < next

@@ -1,43 +1,36 @@
 // Where what is at hand ends, byte by byte.
 ghost use Rattle.std.specs.Prelude.{◌≤◌, length};
+ghost use Rattle.lexicon.specs.Steps.{hand_of};
 ghost use Rattle.forms.specs.WordRead.{BlankEnd, TokenEnd};
 
-use lexicon::move_of;
-
-const SKIPS: u8 = 2;
+use lexicon::{State, Step, move_of};
 
 // Behind white space and comments.
 pub fn blank_end(text: &[u8], at: usize) -> usize
     requires { at ≤ length text.now }
     ensures { BlankEnd text.now at result }
 {
-    let mut state: u8 = 0;
-    let mut i = at;
-    while i < text.len() {
-        let m = move_of(state, text[i]);
-        if m / 16 != SKIPS {
+    let mut state = State::Apart;
+    for i in at..text.len() {
+        let Step::Skips(after) = move_of(state, text[i]) else {
             return i;
-        }
-        state = m % 16;
-        i += 1;
+        };
+        state = after;
     }
-    i
+    text.len()
 }
 
 // Behind the token at hand, whose bytes before the place have led to this state.
-pub fn token_end(text: &[u8], at: usize, first: u8) -> usize
+pub fn token_end(text: &[u8], at: usize, first: State) -> usize
     requires { at ≤ length text.now }
-    ensures { TokenEnd text.now at first result }
+    ensures { TokenEnd text.now at (hand_of first) result }
 {
     let mut state = first;
-    let mut i = at;
-    while i < text.len() {
-        let m = move_of(state, text[i]);
-        if 16 <= m {
+    for i in at..text.len() {
+        let Step::GoesOn(after) = move_of(state, text[i]) else {
             return i;
-        }
-        state = m;
-        i += 1;
+        };
+        state = after;
     }
-    i
+    text.len()
 }

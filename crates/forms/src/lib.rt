@@ -1,7 +1,8 @@
 // The forms of SMT-LIB text, one after the other, each from a place on.
 #![tactic(auto)]
 
-ghost use Rattle.std.specs.Prelude.{◌≡◌, ◌+◌, ◌/◌, ◌^◌, ◌≤◌, ◌<◌, length};
+ghost use Rattle.std.specs.Prelude.{◌≡◌, ◌+◌, ◌^◌, ◌≤◌, ◌<◌, length};
+ghost use Rattle.lexicon.specs.Steps.{move_said};
 ghost use Rattle.forms.specs.Read.{ListEnds, FormReads, FormStands, RestBehind};
 ghost use Rattle.forms.specs.Closing.{left_after};
 
@@ -9,15 +10,8 @@ mod ends;
 mod words;
 
 use ends::{blank_end, token_end};
-use lexicon::move_of;
+use lexicon::{State, Step, move_of};
 use words::{bare, word_at};
-
-// Kinds of moves, as `move_of` tells them.
-const STARTS: u8 = 1;
-
-const OPENS: u8 = 3;
-
-const CLOSES: u8 = 4;
 
 // A form, or the end of the list or of the text: where its first byte is, and where what follows it starts. A symbol and a reserved word are spelt
 // from one place up to another; the value of a numeral above 1,000,000 is 1,000,001.
@@ -57,36 +51,29 @@ pub fn form_at(text: &[u8], at: usize) -> Form
     if text.len() <= place {
         return bare(Form::END, place, place, place, place);
     }
-    let m = move_of(0, text[place]);
-    let kind = m / 16;
     let behind = place + 1;
-    if kind == STARTS {
-        let state = m % 16;
-        let next = token_end(text, behind, state);
-        return word_at(text, place, next, state);
+    match move_of(State::Apart, text[place]) {
+        Step::Starts(state) => {
+            let next = token_end(text, behind, state);
+            word_at(text, place, next, state)
+        }
+        Step::Opens => bare(Form::OPEN, place, place, place, behind),
+        Step::Closes => bare(Form::CLOSE, place, place, place, behind),
+        _ => bare(Form::END, place, place, place, place),
     }
-    if kind == OPENS {
-        return bare(Form::OPEN, place, place, place, behind);
-    }
-    if kind == CLOSES {
-        return bare(Form::CLOSE, place, place, place, behind);
-    }
-    bare(Form::END, place, place, place, place)
 }
 
-// The lists that are open behind a byte, by its move.
-fn left_after(left: usize, m: u8) -> usize
-    requires { (left + 1 < 2 ^ 64) × (m / 16 ≡ 4 → 0 < left) }
-    ensures { result ≡ left_after left m }
+// The lists that are open behind a byte, unless it closes the list at hand.
+#[tactic(auto, unfolding(crate::specs::Closing::left_after))]
+fn left_after(left: usize, step: Step) -> Option<usize>
+    requires { left + 1 < 2 ^ 64 }
+    ensures { result ≡ left_after (move_said step) left }
 {
-    let kind = m / 16;
-    if kind == OPENS {
-        return left + 1;
+    match step {
+        Step::Opens => Some(left + 1),
+        Step::Closes => left.checked_sub(1),
+        Step::Skips(_) | Step::Starts(_) | Step::GoesOn(_) | Step::Stuck => Some(left),
     }
-    if kind == CLOSES {
-        return left - 1;
-    }
-    left
 }
 
 // The place behind the list at hand.
@@ -95,19 +82,17 @@ pub fn list_end(text: &[u8], at: usize) -> usize
     ensures stands { (at ≤ result) × (result ≤ length text.now) }
     ensures closed { ListEnds text.now at result }
 {
-    let mut state: u8 = 0;
-    let mut left: usize = 0;
-    let mut i = at;
-    while i < text.len() {
-        let m = move_of(state, text[i]);
-        i += 1;
-        if left == 0 && m / 16 == CLOSES {
-            return i;
-        }
-        left = left_after(left, m);
-        state = m % 16;
+    let mut state = State::Apart;
+    let mut left = 0;
+    for i in at..text.len() {
+        let step = move_of(state, text[i]);
+        let Some(more) = left_after(left, step) else {
+            return i + 1;
+        };
+        left = more;
+        state = step.state();
     }
-    i
+    text.len()
 }
 
 // The place behind a form: a list's is behind its parenthesis.

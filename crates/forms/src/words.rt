@@ -2,18 +2,12 @@
 ghost use Rattle.std.specs.Prelude.{◌≡◌, ◌+◌, ◌*◌, ◌-◌, ◌≤◌, ◌<◌, true};
 ghost use Rattle.smtlib.specs.Terms.{most_numeral};
 ghost use Rattle.smtlib.specs.Lexicon.{is_digit};
+ghost use Rattle.lexicon.specs.Steps.{hand_of};
 ghost use Rattle.forms.specs.Read.{clipped};
 ghost use Rattle.forms.specs.WordRead.{formed, NumeralStarts, SymbolStarts, WordStarts, WordRead};
 
 use crate::Form;
-use lexicon::{is_digit, is_reserved};
-
-// States behind a word's first byte: a numeral's are at most this one.
-const DIGITS: u8 = 3;
-
-const SYMBOL: u8 = 12;
-
-const BARS: u8 = 15;
+use lexicon::{State, is_digit, is_reserved};
 
 // A form of no value.
 pub fn bare(kind: u8, place: usize, from: usize, to: usize, next: usize) -> Form
@@ -34,7 +28,7 @@ fn grown(value: u64, byte: u8) -> u64
     requires { (value ≤ most_numeral + 1) × (is_digit byte ≡ true) }
     ensures { result ≡ clipped (10 * value + (byte - 48)) }
 {
-    let more = 10 * value + (byte - b'0') as u64;
+    let more = 10 * value + u64::from(byte - b'0');
     if 1000000 < more {
         return 1000001;
     }
@@ -47,14 +41,12 @@ fn numeral_at(text: &[u8], place: usize, next: usize) -> Form
     ensures { WordRead text.now place next result }
 {
     let mut value: u64 = 0;
-    let mut i = place;
-    while i < next {
+    for i in place..next {
         let byte = text[i];
         if !is_digit(byte) {
             return bare(Form::OTHER, place, place, place, next);
         }
         value = grown(value, byte);
-        i += 1;
     }
     Form {
         kind: Form::NUMERAL,
@@ -88,19 +80,17 @@ fn symbol_at(text: &[u8], place: usize, next: usize) -> Form
 }
 
 // The word, by the state behind its first byte.
-pub fn word_at(text: &[u8], place: usize, next: usize, state: u8) -> Form
-    requires { WordStarts text.now place next state }
+pub fn word_at(text: &[u8], place: usize, next: usize, state: State) -> Form
+    requires { WordStarts text.now place next (hand_of state) }
     ensures { WordRead text.now place next result }
 {
-    if state == SYMBOL {
-        return symbol_at(text, place, next);
+    match state {
+        State::Symbol => symbol_at(text, place, next),
+        State::Nought | State::Digits => numeral_at(text, place, next),
+        State::Bars => {
+            let from = place + 1;
+            bare(Form::SYMBOL, place, from, bar_before(from, next), next)
+        }
+        _ => bare(Form::OTHER, place, place, place, next),
     }
-    if state <= DIGITS {
-        return numeral_at(text, place, next);
-    }
-    if state == BARS {
-        let from = place + 1;
-        return bare(Form::SYMBOL, place, from, bar_before(from, next), next);
-    }
-    bare(Form::OTHER, place, place, place, next)
 }

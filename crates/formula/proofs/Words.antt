@@ -1,29 +1,29 @@
 -- Which truths words have: joined words by their bits, and an atom's words by computation.
-use Prim.Native.Nat.{ℕ, zero, suc, ◌+◌, ◌*◌, ◌-◌, ◌/◌, ◌%◌, ◌^◌, ◌<◌, min, max}
-use native.Mathlib.Nat.{pow-suc, zero-div}
+use Prim.Native.Nat.{ℕ, zero, suc, ◌-◌, ◌/◌, ◌%◌, ◌^◌, ◌<◌, min, max}
+use native.Mathlib.Nat.{zero-div}
 use native.Mathlib.Omega.{arith}
-use mathlib.Core.Path.{◌≡◌, refl, sym, ap, ◌∙◌}
-use mathlib.Core.Bool.{Bool, true, false, not, ◌&&◌, ◌||◌, beq, xor, and-eq-true_iff, false≢true}
+use mathlib.Core.Path.{◌≡◌, refl, ap, ◌∙◌}
+use mathlib.Core.Bool.{Bool, true, false, not, ◌&&◌, ◌||◌, beq, and-eq-true_iff, false≢true}
 use mathlib.Core.List.{List, [], ◌∷◌}
 use lib.ListN.{length, get_or}
 use lib.Dec.{eqb}
-use lib.Bits.{bit_and, bit_or, bit_xor, differ, and_step, or_step, xor_step, and_shr, or_shr, xor_shr}
-use lib.Pow.{pow_pos, high, ones_split, ones_lt}
+use lib.Bits.{bit_and, bit_or}
+use mir.Syntax.{w64}
+use Rattle.std.specs.Int.{bit_not}
+use Rattle.std.proofs.lemmas.Nat.Bits.{bit_at_and, bit_at_or, bit_at_not, bit_at-lt}
 use Rattle.formula.specs.Truths.{worths_number, bit_at, truth_at, WordsOf}
 use Rattle.formula.proofs.Numbers.{number_below}
 
 -- ---- a bit of joined words
 
--- by their digits: how two are joined, and what the joined one tells
-module _ (op digit : ℕ → ℕ → ℕ) (f : Bool → Bool → Bool)
-    (shr : (a b k : ℕ) → op a b / 2 ^ k ≡ op (a / 2 ^ k) (b / 2 ^ k))
-    (step : (a b : ℕ) → op a b ≡ op (a / 2) (b / 2) * 2 + digit (a % 2) (b % 2))
-    (neither : eqb (digit 0 0 % 2) 1 ≡ f false false)
-    (second : eqb (digit 0 1 % 2) 1 ≡ f false true)
-    (first : eqb (digit 1 0 % 2) 1 ≡ f true false)
-    (two : eqb (digit 1 1 % 2) 1 ≡ f true true)
+-- by the two digits: how they are joined, and what the joined one tells
+module _ (digit : ℕ → ℕ → ℕ) (f : Bool → Bool → Bool)
+    (neither : eqb (digit 0 0) 1 ≡ f false false)
+    (second : eqb (digit 0 1) 1 ≡ f false true)
+    (first : eqb (digit 1 0) 1 ≡ f true false)
+    (two : eqb (digit 1 1) 1 ≡ f true true)
   where
-    tells : (p q : ℕ) → p < 2 → q < 2 → eqb (digit p q % 2) 1 ≡ f (eqb p 1) (eqb q 1)
+    tells : (p q : ℕ) → p < 2 → q < 2 → eqb (digit p q) 1 ≡ f (eqb p 1) (eqb q 1)
     tells zero zero g h = neither
     tells zero (suc zero) g h = second
     tells zero (suc (suc q)) g h = absurd (omega arith)
@@ -32,82 +32,56 @@ module _ (op digit : ℕ → ℕ → ℕ) (f : Bool → Bool → Bool)
     tells (suc zero) (suc (suc q)) g h = absurd (omega arith)
     tells (suc (suc p)) q g h = absurd (omega arith)
 
-    last : (a b : ℕ) → op a b % 2 ≡ digit (a % 2) (b % 2) % 2
-    last a b = omega (arith, step a b)
+bit_of_and : (a b k : ℕ) → bit_at (bit_and a b) k ≡ bit_at a k && bit_at b k
+bit_of_and a b k = ap (λ (d : ℕ). eqb d 1) (bit_at_and a b k) ∙ tells min ◌&&◌ refl refl refl refl _ _ (bit_at-lt a k) (bit_at-lt b k)
 
-    bit_op : (a b k : ℕ) → bit_at (op a b) k ≡ f (bit_at a k) (bit_at b k)
-    bit_op a b k =
-        ap (λ (w : ℕ). eqb (w % 2) 1) (shr a b k) ∙
-        ap (λ (w : ℕ). eqb w 1) (last (a / 2 ^ k) (b / 2 ^ k)) ∙
-        tells (a / 2 ^ k % 2) (b / 2 ^ k % 2) (omega arith) (omega arith)
+bit_of_or : (a b k : ℕ) → bit_at (bit_or a b) k ≡ bit_at a k || bit_at b k
+bit_of_or a b k = ap (λ (d : ℕ). eqb d 1) (bit_at_or a b k) ∙ tells max ◌||◌ refl refl refl refl _ _ (bit_at-lt a k) (bit_at-lt b k)
 
-bit_and_lem : (a b k : ℕ) → bit_at (bit_and a b) k ≡ bit_at a k && bit_at b k
-bit_and_lem = bit_op bit_and min ◌&&◌ and_shr and_step refl refl refl refl
-
-bit_or_lem : (a b k : ℕ) → bit_at (bit_or a b) k ≡ bit_at a k || bit_at b k
-bit_or_lem = bit_op bit_or max ◌||◌ or_shr or_step refl refl refl refl
-
-bit_xor_lem : (a b k : ℕ) → bit_at (bit_xor a b) k ≡ xor (bit_at a k) (bit_at b k)
-unfolding xor
-bit_xor_lem = bit_op bit_xor differ xor xor_shr xor_step refl refl refl refl
-
-abbrev ones : ℕ
-ones = 18446744073709551615
-
-bit_ones : (k : ℕ) → k < 64 → bit_at ones k ≡ true
-bit_ones k h =
-    let i = 63 - k in
-    let e : suc i + k ≡ 64 = omega arith in
-    let shifted : (2 ^ (suc i + k) - 1) / 2 ^ k ≡ 2 ^ suc i - 1 = ap (λ (w : ℕ). w / 2 ^ k) (ones_split (suc i) k) ∙ high (2 ^ suc i - 1) k (ones_lt k) in
-    let q : ones / 2 ^ k ≡ 2 ^ suc i - 1 = ap (λ (n : ℕ). (2 ^ n - 1) / 2 ^ k) (sym e) ∙ shifted in
-    let odd : (2 ^ suc i - 1) % 2 ≡ 1 = rw (pow-suc 2 i) (omega (arith, pow_pos i)) in
-    ap (λ (w : ℕ). eqb (w % 2) 1) q ∙ ap (λ (w : ℕ). eqb w 1) odd
-
-xor_true : (b : Bool) → xor b true ≡ not b
-unfolding xor
-xor_true true = refl
-xor_true false = refl
-
-bit_not : (a k : ℕ) → k < 64 → bit_at (bit_xor a ones) k ≡ not (bit_at a k)
-bit_not a k h = bit_xor_lem a ones k ∙ ap (λ (b : Bool). xor (bit_at a k) b) (bit_ones k h) ∙ xor_true (bit_at a k)
+bit_of_not : (a k : ℕ) → a < 2 ^ 64 → k < 64 → bit_at (bit_not w64 a) k ≡ not (bit_at a k)
+bit_of_not a k h l = ap (λ (d : ℕ). eqb d 1) (bit_at_not w64 a k h l) ∙ tells (λ p q. 1 - p) (λ p q. not p) refl refl refl refl _ 0 (bit_at-lt a k) (omega arith)
 
 -- ---- words by their bits
 
-get_d_four : (word : ℕ → ℕ) (i : ℕ) → i < 4 → get_or (word 0 ∷ word 1 ∷ word 2 ∷ word 3 ∷ []) i 0 ≡ word i
-get_d_four word zero h = refl
-get_d_four word (suc zero) h = refl
-get_d_four word (suc (suc zero)) h = refl
-get_d_four word (suc (suc (suc zero))) h = refl
-get_d_four word (suc (suc (suc (suc i)))) h = absurd (omega arith)
-
-module _ (word : ℕ → ℕ) (bit : ℕ → ℕ → Bool) (law : (i k : ℕ) → k < 64 → bit_at (word i) k ≡ bit i k) where
-  words_of : WordsOf (λ ws. bit (worths_number ws / 64) (worths_number ws % 64)) (word 0 ∷ word 1 ∷ word 2 ∷ word 3 ∷ [])
+module _ (bit : ℕ → ℕ → Bool) {words : List ℕ} (four : length words ≡ 4) (law : (i k : ℕ) → i < 4 → k < 64 → bit_at (get_or words i 0) k ≡ bit i k) where
+  words_of : WordsOf (λ ws. bit (worths_number ws / 64) (worths_number ws % 64)) words
   unfolding truth_at
   words_of = record {
-    four = refl;
-    says = λ ws e.
-        ap (λ (w : ℕ). bit_at w (worths_number ws % 64)) (get_d_four word (worths_number ws / 64) (omega (arith, number_below ws e))) ∙
-        law (worths_number ws / 64) (worths_number ws % 64) (omega arith);
+    four = four;
+    says = λ ws e. law (worths_number ws / 64) (worths_number ws % 64) (omega (arith, number_below ws e)) (omega arith);
   }
 
+no_bit : (k : ℕ) → bit_at 0 k ≡ false
+no_bit k = rw (zero-div (2 ^ k))
+
 pub none_words : WordsOf (λ ws. false) (0 ∷ 0 ∷ 0 ∷ 0 ∷ [])
-none_words = words_of (λ i. 0) (λ i k. false) (λ i k h. rw (zero-div (2 ^ k)))
+none_words = words_of (λ i k. false) refl (λ i k l h. none_at i l k)
+  where
+    none_at : (i : ℕ) → i < 4 → (k : ℕ) → bit_at (get_or (0 ∷ 0 ∷ 0 ∷ 0 ∷ []) i 0) k ≡ false
+    none_at zero l k = no_bit k
+    none_at (suc zero) l k = no_bit k
+    none_at (suc (suc zero)) l k = no_bit k
+    none_at (suc (suc (suc zero))) l k = no_bit k
+    none_at (suc (suc (suc (suc i)))) l k = absurd (omega arith)
 
 abbrev of : List ℕ → ℕ → ℕ
 of l i = get_or l i 0
 
-pub denied_words : (x : List ℕ) → WordsOf (λ ws. not (truth_at x ws)) (bit_xor (of x 0) ones ∷ bit_xor (of x 1) ones ∷ bit_xor (of x 2) ones ∷ bit_xor (of x 3) ones ∷ [])
+pub denied_words : (x : List ℕ) {words : List ℕ} → ((i : ℕ) → of x i < 2 ^ 64) → length words ≡ 4 → ((i : ℕ) → i < 4 → of words i ≡ bit_not w64 (of x i)) → WordsOf (λ ws. not (truth_at x ws)) words
 unfolding truth_at
-denied_words x = words_of (λ i. bit_xor (of x i) ones) (λ i k. not (bit_at (of x i) k)) (λ i k h. bit_not (of x i) k h)
+denied_words x fits four each = words_of (λ i k. not (bit_at (of x i) k)) four (λ i k l h. ap (λ (w : ℕ). bit_at w k) (each i l) ∙ bit_of_not (of x i) k (fits i) h)
 
-module _ (x y : List ℕ) where
-  pub both_words : WordsOf (λ ws. truth_at x ws && truth_at y ws) (bit_and (of x 0) (of y 0) ∷ bit_and (of x 1) (of y 1) ∷ bit_and (of x 2) (of y 2) ∷ bit_and (of x 3) (of y 3) ∷ [])
+module _ (x y : List ℕ) {words : List ℕ} (four : length words ≡ 4) where
+  pub both_words : ((i : ℕ) → i < 4 → of words i ≡ bit_and (of x i) (of y i)) → WordsOf (λ ws. truth_at x ws && truth_at y ws) words
   unfolding truth_at
-  both_words = words_of (λ i. bit_and (of x i) (of y i)) (λ i k. bit_at (of x i) k && bit_at (of y i) k) (λ i k h. bit_and_lem (of x i) (of y i) k)
+  both_words each = words_of (λ i k. bit_at (of x i) k && bit_at (of y i) k) four (λ i k l h. ap (λ (w : ℕ). bit_at w k) (each i l) ∙ bit_of_and (of x i) (of y i) k)
 
-  pub either_words : WordsOf (λ ws. truth_at x ws || truth_at y ws) (bit_or (of x 0) (of y 0) ∷ bit_or (of x 1) (of y 1) ∷ bit_or (of x 2) (of y 2) ∷ bit_or (of x 3) (of y 3) ∷ [])
+  pub either_words : ((i : ℕ) → i < 4 → of words i ≡ bit_or (of x i) (of y i)) → WordsOf (λ ws. truth_at x ws || truth_at y ws) words
   unfolding truth_at
-  either_words = words_of (λ i. bit_or (of x i) (of y i)) (λ i k. bit_at (of x i) k || bit_at (of y i) k) (λ i k h. bit_or_lem (of x i) (of y i) k)
+  either_words each = words_of (λ i k. bit_at (of x i) k || bit_at (of y i) k) four (λ i k l h. ap (λ (w : ℕ). bit_at w k) (each i l) ∙ bit_of_or (of x i) (of y i) k)
+
+abbrev ones : ℕ
+ones = 18446744073709551615
 
 -- ---- the atoms' words, by computation over every set of worths
 
@@ -132,8 +106,32 @@ beq_true false false e = refl
 abbrev pub same_at : ℕ → List ℕ → List Bool → Bool
 same_at atom words ws = beq (truth_at words ws) (get_or ws atom false)
 
-pub atom_words : (atom : ℕ) {a b c d : ℕ} → every_set 8 (same_at atom (a ∷ b ∷ c ∷ d ∷ [])) ≡ true → WordsOf (λ ws. get_or ws atom false) (a ∷ b ∷ c ∷ d ∷ [])
-atom_words atom {a} {b} {c} {d} h = record {
+from_four : (atom : ℕ) {a b c d : ℕ} → every_set 8 (same_at atom (a ∷ b ∷ c ∷ d ∷ [])) ≡ true → WordsOf (λ ws. get_or ws atom false) (a ∷ b ∷ c ∷ d ∷ [])
+from_four atom {a} {b} {c} {d} h = record {
   four = refl;
   says = λ ws e. beq_true (truth_at (a ∷ b ∷ c ∷ d ∷ []) ws) (get_or ws atom false) (each_set 8 (same_at atom (a ∷ b ∷ c ∷ d ∷ [])) h ws e);
 }
+
+abbrev pub atoms_words : List (List ℕ)
+atoms_words =
+    (12297829382473034410 ∷ 12297829382473034410 ∷ 12297829382473034410 ∷ 12297829382473034410 ∷ []) ∷
+    (14757395258967641292 ∷ 14757395258967641292 ∷ 14757395258967641292 ∷ 14757395258967641292 ∷ []) ∷
+    (17361641481138401520 ∷ 17361641481138401520 ∷ 17361641481138401520 ∷ 17361641481138401520 ∷ []) ∷
+    (18374966859414961920 ∷ 18374966859414961920 ∷ 18374966859414961920 ∷ 18374966859414961920 ∷ []) ∷
+    (18446462603027742720 ∷ 18446462603027742720 ∷ 18446462603027742720 ∷ 18446462603027742720 ∷ []) ∷
+    (18446744069414584320 ∷ 18446744069414584320 ∷ 18446744069414584320 ∷ 18446744069414584320 ∷ []) ∷
+    (0 ∷ ones ∷ 0 ∷ ones ∷ []) ∷
+    (0 ∷ 0 ∷ ones ∷ ones ∷ []) ∷
+    []
+
+pub atom_words : (atom : ℕ) → atom < 8 → WordsOf (λ ws. get_or ws atom false) (get_or atoms_words atom [])
+unfolding every_set truth_at
+atom_words zero h = from_four 0 refl
+atom_words (suc zero) h = from_four 1 refl
+atom_words (suc (suc zero)) h = from_four 2 refl
+atom_words (suc (suc (suc zero))) h = from_four 3 refl
+atom_words (suc (suc (suc (suc zero)))) h = from_four 4 refl
+atom_words (suc (suc (suc (suc (suc zero))))) h = from_four 5 refl
+atom_words (suc (suc (suc (suc (suc (suc zero)))))) h = from_four 6 refl
+atom_words (suc (suc (suc (suc (suc (suc (suc zero))))))) h = from_four 7 refl
+atom_words (suc (suc (suc (suc (suc (suc (suc (suc atom)))))))) h = absurd (omega arith)

@@ -6,6 +6,8 @@ use mathlib.Core.Bool.{Bool, true, false, true≢false}
 use mathlib.Core.List.{List, [], ◌∷◌, ◌++◌, cons≢nil}
 use lib.Dec.{leb, eqb}
 use borrow.Author.Tests.{leb-true, leb-false, eqb-true, eqb-false}
+use Rattle.std.proofs.Common.{Ok, Err}
+use Rattle.scope.specs.declared.Refusal.{Refusal}
 use Rattle.scope.specs.Question.{node_of}
 use Rattle.smtlib.specs.Lexicon.{most_nesting}
 use Rattle.smtlib.specs.Forms.{Bare, Forms, nothing, word, list}
@@ -19,11 +21,11 @@ use Rattle.forms.specs.Following.{ended_forms}
 use Rattle.terms.specs.Read.{Inside}
 use Rattle.laying.specs.declared.Laying.{Laying}
 use Rattle.laying.specs.declared.Laid.{Laid}
-use Rattle.laying.specs.Laid.{Layable, LaysMore}
+use Rattle.laying.specs.Laid.{Layable, LaysMore, Refuses}
 use Rattle.laying.specs.Texts.{ClauseLays}
 use Rattle.laying.specs.Deeper.{Deepened, DeepenedIf}
-use Rattle.laying.specs.More.{more_onward, more_refused, more_depth_back}
-use Rattle.importing.specs.Underway.{JoinLaid, AssertionLaid, AssertionLays}
+use Rattle.laying.specs.More.{more_onward, refused_behind, refused_before}
+use Rattle.importing.specs.Underway.{join_laid, JoinLaid, AssertionLaid, AssertionRefused, AssertionLays}
 
 -- ---- the place of a formula is that of its form
 
@@ -88,67 +90,73 @@ module _ (text : List ℕ) (at depth : ℕ) (f : Form) (r : FormRead text at dep
 
 -- ---- laid behind its join, or by itself
 
-module _ (place : ℕ) (c : Clause) (at_form : c.place ≡ place) (before begun : Laying) (ready : Layable before) where
-  module _ (d : Deepened (connective place before.depth (node_of 4)) before begun) where
-    join_stopped : (begun.refusal.number ≡ 0 → ⊥) → JoinLaid c before begun
-    join_stopped z = record {
-      stopped = λ y ys. rw at_form (more_depth_back before begun _ (more_refused before begun (connective place before.depth (node_of 4) ∷ []) (d.stopped z) (placed_from (suc before.depth) c.formula ++ ys) z));
-      ready = λ y. absurd (z y);
-      deeper = λ y. absurd (z y);
-      onward = λ y. absurd (z y);
-    }
+module _ (place : ℕ) (c : Clause) (at_form : c.place ≡ place) (before : Laying) where
+  -- the join itself is refused
+  join_refused : (more : Bool) (r : Refusal) → (more ≡ true) × Refuses (connective place before.depth (node_of 4) ∷ []) before r → AssertionRefused more c before r
+  join_refused more r k = record {
+    joined = λ h ys. rw at_form (refused_before before (connective place before.depth (node_of 4) ∷ []) r k.1 (placed_from (suc before.depth) c.formula ++ ys));
+    last = λ h. absurd (true≢false (sym k.0 ∙ h));
+  }
 
-    module _ (z : begun.refusal.number ≡ 0) (after : Laying) (laid : LaysMore (placed_from begun.depth c.formula) begun after) where
-      m : LaysMore (placed_from (suc before.depth) c.formula) begun after
-      m = subst (λ (k : ℕ). LaysMore (placed_from k c.formula) begun after) (d.deeper z) laid
+  module _ (ready : Layable before) (begun : Laying) where
+    module _ (d : Deepened (connective place before.depth (node_of 4)) before begun) where
+      behind_refused : (r : Refusal) → Refuses (placed_from begun.depth c.formula) begun r → (ys : List PlacedNode) → Refuses (join_laid before.depth c ys) before r
+      behind_refused r k ys = rw at_form (d.refused _ r (refused_before begun (placed_from (suc before.depth) c.formula) r (subst (λ (n : ℕ). Refuses (placed_from n c.formula) begun r) d.deeper k) ys))
 
-      join_n : after.n ≡ before.n
-      join_n = (d.onward z _ after m).n_kept
+      module _ (after : Laying) (laid : LaysMore (placed_from begun.depth c.formula) begun after) where
+        m : LaysMore (placed_from (suc before.depth) c.formula) begun after
+        m = subst (λ (k : ℕ). LaysMore (placed_from k c.formula) begun after) d.deeper laid
 
-      join_laid_lem : JoinLaid c before after
-      join_laid_lem = record {
-        stopped = λ y ys. rw at_form (d.onward z _ after (more_refused begun after _ m ys y));
-        ready = λ y. record { few = omega (arith, join_n, ready.few); number_none = y };
-        deeper = λ y. m.depth_kept ∙ d.deeper z;
-        onward = λ y ys later k. rw at_form (d.onward z _ later (more_onward begun after _ m later ys k));
+        join_n : after.n ≡ before.n
+        join_n = (d.onward _ after m).n_kept
+
+        join_laid_lem : JoinLaid c before after
+        join_laid_lem = record {
+          ready = record { few = omega (arith, join_n, ready.few) };
+          deeper = m.depth_kept ∙ d.deeper;
+          onward = λ ys later k. rw at_form (d.onward _ later (more_onward begun after _ m later ys k));
+          refused = λ ys r k. rw at_form (d.refused _ r (refused_behind begun after _ m ys r k));
+        }
+
+    module _ (more : Bool) (d : DeepenedIf more (connective place before.depth (node_of 4)) before begun) where
+      refused_laid : (r : Refusal) → Refuses (placed_from begun.depth c.formula) begun r → AssertionRefused more c before r
+      refused_laid r k = record {
+        joined = λ e. behind_refused (d.asked_for e) r k;
+        last = λ e. subst (λ (l : Laying). Refuses (placed_from l.depth c.formula) l r) (d.as_before e) k;
       }
 
-  module _ (more : Bool) (d : DeepenedIf more (connective place before.depth (node_of 4)) before begun) where
-    stopped_laid : (begun.refusal.number ≡ 0 → ⊥) → AssertionLaid more c before begun
-    stopped_laid z = go more refl
-      where
-        go : (t : Bool) → more ≡ t → AssertionLaid more c before begun
-        go true e = record { n_kept = ((d.asked_for e).stopped z).n_kept; joins = λ h. join_stopped (d.asked_for e) z; last = λ h. absurd (true≢false (sym e ∙ h)) }
-        go false e = absurd (z (ap (λ (l : Laying). l.refusal.number) (d.as_before e) ∙ ready.number_none))
-
-    behind_laid : begun.refusal.number ≡ 0 → (after : Laying) → LaysMore (placed_from begun.depth c.formula) begun after → AssertionLaid more c before after
-    behind_laid z after laid = go more refl
-      where
-        go : (t : Bool) → more ≡ t → AssertionLaid more c before after
-        go true e = record { n_kept = join_n (d.asked_for e) z after laid; joins = λ h. join_laid_lem (d.asked_for e) z after laid; last = λ h. absurd (true≢false (sym e ∙ h)) }
-        go false e =
-            let by_itself : LaysMore (placed_from before.depth c.formula) before after = subst (λ (l : Laying). LaysMore (placed_from l.depth c.formula) l after) (d.as_before e) laid in
-            record { n_kept = by_itself.n_kept; joins = λ h. absurd (true≢false (sym h ∙ e)); last = λ h. by_itself }
+      behind_laid : (after : Laying) → LaysMore (placed_from begun.depth c.formula) begun after → AssertionLaid more c before after
+      behind_laid after laid = go more refl
+        where
+          go : (t : Bool) → more ≡ t → AssertionLaid more c before after
+          go true e = record { n_kept = join_n (d.asked_for e) after laid; joins = λ h. join_laid_lem (d.asked_for e) after laid; last = λ h. absurd (true≢false (sym e ∙ h)) }
+          go false e =
+              let by_itself : LaysMore (placed_from before.depth c.formula) before after = subst (λ (l : Laying). LaysMore (placed_from l.depth c.formula) l after) (d.as_before e) laid in
+              record { n_kept = by_itself.n_kept; joins = λ h. absurd (true≢false (sym h ∙ e)); last = λ h. by_itself }
 
 -- ---- in the text
 
-pub assertion_ready : (more : Bool) (x : PlacedNode) (before begun : Laying) → Layable before → DeepenedIf more x before begun → begun.refusal.number ≡ 0 → Layable begun
-assertion_ready more x before begun ready d z = go more refl
+pub assertion_ready : (more : Bool) (x : PlacedNode) (before begun : Laying) → Layable before → DeepenedIf more x before begun → Layable begun
+assertion_ready more x before begun ready d = go more refl
   where
     go : (t : Bool) → more ≡ t → Layable begun
-    go true e = (d.asked_for e).ready z
+    go true e = (d.asked_for e).ready
     go false e = subst Layable (sym (d.as_before e)) ready
 
-module _ (text : List ℕ) (at : ℕ) (names : List (List ℕ)) (i : Inside text at 31) (f : Form) (reads : FormReads text at f) (more : Bool) (before begun : Laying) (ready : Layable before)
-    (d : DeepenedIf more (connective f.place before.depth (node_of 4)) before begun) where
+module _ (text : List ℕ) (at : ℕ) (names : List (List ℕ)) (i : Inside text at 31) (f : Form) (reads : FormReads text at f) (more : Bool) (before : Laying) where
   form_place : (c : Clause) (rest : List Clause) → clauses_of names (forms_at text at) ≡ c ∷ rest → c.place ≡ f.place
   unfolding FormReads
   form_place c rest e = formula_place text at (most_nesting - 31) f (reads (most_nesting - 31) i.unbroken) names c rest e
 
-  pub assertion_refused : (begun.refusal.number ≡ 0 → ⊥) → AssertionLays text at names more before begun
+  pub assertion_refused : (r : Refusal) → (more ≡ true) × Refuses (connective f.place before.depth (node_of 4) ∷ []) before r → AssertionLays text at names more before (Err r)
   unfolding AssertionLays
-  assertion_refused z c rest e = stopped_laid f.place c (form_place c rest e) before begun ready more d z
+  assertion_refused r k c rest e = join_refused f.place c (form_place c rest e) before more r k
 
-  pub assertion_follows : begun.refusal.number ≡ 0 → (r : Laid) → ClauseLays text at (most_nesting - 31) names begun r → AssertionLays text at names more before r.laying
-  unfolding AssertionLays ClauseLays
-  assertion_follows z r lays c rest e = behind_laid f.place c (form_place c rest e) before begun ready more d z r.laying (lays c rest e).laid
+  module _ (ready : Layable before) (begun : Laying) (d : DeepenedIf more (connective f.place before.depth (node_of 4)) before begun) where
+    pub assertion_stopped : (r : Refusal) → ClauseLays text at (most_nesting - 31) names begun (Err r) → AssertionLays text at names more before (Err r)
+    unfolding AssertionLays ClauseLays
+    assertion_stopped r lays c rest e = refused_laid f.place c (form_place c rest e) before ready begun more d r (lays c rest e)
+
+    pub assertion_follows : (r : Laid) → ClauseLays text at (most_nesting - 31) names begun (Ok r) → AssertionLays text at names more before (Ok r.laying)
+    unfolding AssertionLays ClauseLays
+    assertion_follows r lays c rest e = behind_laid f.place c (form_place c rest e) before ready begun more d r.laying (lays c rest e).laid

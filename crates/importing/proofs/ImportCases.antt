@@ -1,90 +1,82 @@
 -- What is given in each case: the text broken, its script at fault, a limit passed, or a question.
-use Prim.Native.Nat.{ℕ, ◌*◌, ◌<◌}
+use Prim.Native.Nat.{ℕ, ◌*◌, ◌≤◌, ◌<◌}
 use native.Mathlib.Omega.{arith}
 use mathlib.Core.Path.{◌≡◌, refl, sym, ap, ◌∙◌, subst}
-use mathlib.Core.Bool.{true, false, true≢false}
 use mathlib.Core.Option.{Option, none, some}
 use mathlib.Core.List.{List, [], ◌++◌, cons≢nil}
-use lib.ListN.{length, take}
+use lib.ListN.{length, take, replicate}
 use lib.Dec.{ltb}
 use borrow.Author.Tests.{ltb-true}
+use Rattle.std.specs.Prelude.{Some, None, Ok, Err, Result, ⊤}
+use Rattle.scope.specs.declared.Question.{Question}
+use Rattle.scope.specs.declared.Rule.{Rule}
 use Rattle.scope.specs.declared.Refusal.{Refusal}
-use Rattle.scope.specs.declared.ReadAnswer.{ReadAnswer}
-use Rattle.scope.specs.declared.Held.{Held}
 use Rattle.scope.specs.Whole.{at_front}
-use Rattle.scope.specs.Refusals.{refusal, NOT_WELL_FORMED}
+use Rattle.scope.specs.Sizes.{most_variables}
+use Rattle.scope.specs.Refusals.{refusal, unless_refused}
 use Rattle.smtlib.specs.Lexicon.{broken_at}
 use Rattle.smtlib.specs.Forms.{Forms, forms_of}
 use Rattle.smtlib.specs.Formulas.{Clause}
 use Rattle.smtlib.specs.Script.{Stage, start, under, checked, names_of, unsigned, missing_forms, missing_names, script_of, all_outside, all_beyond}
-use Rattle.smtlib.specs.Imported.{refusing, laid_out, laid_unless, imported_if, imported}
+use Rattle.smtlib.specs.Imported.{laid_out, laid_unless, imported_if, imported}
 use Rattle.smtlib.specs.Values.{append_none}
 use Rattle.smtlib.specs.Steps.{unless_none}
 use Rattle.smtlib.proofs.Scripts.{few_names}
 use Rattle.smtlib.specs.Lowest.{faultless_exactly}
 use Rattle.smtlib.specs.Cases.{script_in, formula_in, fault_in}
-use Rattle.lexicon.specs.declared.Spot.{Spot}
-use Rattle.lexicon.specs.Spots.{spot_of}
+use Rattle.lexicon.specs.Spots.{spot_of, spot_none, spot_some}
 use Rattle.forms.specs.Places.{forms_at}
 use Rattle.forms.specs.Following.{text_unbroken, text_forms}
 use Rattle.laying.specs.declared.Laying.{Laying}
-use Rattle.laying.specs.Laid.{laid_question, Lays}
+use Rattle.laying.specs.Laid.{laid_question}
 use Rattle.laying.specs.LaidTree.{laid_accepted, laid_refused}
 use Rattle.script.specs.declared.Kept.{Kept}
 use Rattle.script.specs.Kept.{declaration_at, Keeps}
 use Rattle.script.specs.Declarations.{declared_count, declared_names_lem}
-use Rattle.script.specs.Faults.{answer_by, FaultTold}
+use Rattle.script.specs.Faults.{FaultTold}
 use Rattle.importing.specs.declared.answer.Import.{Import}
-use Rattle.importing.specs.Given.{no_bounds, bounds_if, import_given}
-use Rattle.importing.specs.Underway.{FaultlessText, whole_laid}
+use Rattle.importing.specs.Given.{given_by, import_given}
+use Rattle.importing.specs.Underway.{FaultlessText, WholeLaidOr, first_refused}
 use Rattle.importing.proofs.NameBounds.{kept_bounds}
 
 module _ (text : List ℕ) where
-  refused_given : (r : Refusal) → refusing r ≡ imported text → record { held = refusing r; names = no_bounds } ≡ import_given text
+  refused_given : (r : Refusal) → Err r ≡ imported text → Err r ≡ import_given text
   unfolding import_given
-  refused_given r e = ap {B = Import} (λ (h : Held). record { held = h; names = bounds_if h.answer text }) e
+  refused_given r e = ap {B = Result Import Refusal} (λ (a : Result Question Refusal). given_by a text) e
 
   -- ---- a text that is broken
 
-  pub broken_given : (b : Spot) → b ≡ spot_of (broken_at text) → b.there ≡ true → record { held = refusing (refusal NOT_WELL_FORMED b.place); names = no_bounds } ≡ import_given text
+  pub broken_given : (at : ℕ) → Some at ≡ spot_of (broken_at text) → Err (refusal Rule.NotWellFormed at) ≡ import_given text
   unfolding imported
-  broken_given b e h = refused_given (refusal NOT_WELL_FORMED b.place) (go (broken_at text) e)
-    where
-      go : (o : Option ℕ) → b ≡ spot_of o → refusing (refusal NOT_WELL_FORMED b.place) ≡ imported_if o text
-      go none e = absurd (true≢false (sym h ∙ ap (λ (s : Spot). s.there) e))
-      go (some at) e = ap (λ (s : Spot). refusing (refusal NOT_WELL_FORMED s.place)) e
+  broken_given at e = refused_given (refusal Rule.NotWellFormed at) (rw (spot_some (broken_at text) at e))
 
-  pub whole_text : (b : Spot) → b ≡ spot_of (broken_at text) → b.there ≡ false → broken_at text ≡ none
-  whole_text b e h = go (broken_at text) e
-    where
-      go : (o : Option ℕ) → b ≡ spot_of o → o ≡ none
-      go none e = refl
-      go (some at) e = absurd (true≢false (sym (ap (λ (s : Spot). s.there) e) ∙ h))
+  pub whole_text : None ≡ spot_of (broken_at text) → broken_at text ≡ none
+  whole_text e = spot_none (broken_at text) e
 
   -- ---- a script at fault
 
   pub keeps_text : (k : Kept) → Keeps text (script_of (forms_at text 0)) k → Keeps text (script_in text) k
   keeps_text k h = subst (λ (l : Forms). Keeps text (script_of l) k) (sym (text_forms text)) h
 
-  module _ (p : broken_at text ≡ none) (k : Kept) (h : Keeps text (script_in text) k) (a : ReadAnswer) (told : FaultTold k (length text) a) where
-    answered : a ≡ answer_by (fault_in text)
+  module _ (p : broken_at text ≡ none) (k : Kept) (h : Keeps text (script_in text) k) (a : Result ⊤ Refusal) (told : FaultTold k (length text) a) where
+    answered : a ≡ unless_refused (fault_in text) tt
     unfolding FaultTold
     answered = told text (script_in text) h
 
-    pub fault_given : (r : Refusal) → a ≡ ReadAnswer.Refused r → record { held = refusing (refusal r.number r.place); names = no_bounds } ≡ import_given text
+    pub fault_given : (r : Refusal) → a ≡ Err r → Err r ≡ import_given text
     unfolding imported
     fault_given r e = refused_given r (go (fault_in text) answered ∙ ap (λ (o : Option ℕ). imported_if o text) (sym p))
       where
-        go : (o : Option Refusal) → a ≡ answer_by o → refusing r ≡ laid_unless o (script_in text)
-        go none f = let z : ReadAnswer.Refused r ≡ ReadAnswer.Accepted = sym e ∙ f in absurd (let y : ◌≡◌ {A = ℕ} 0 1 = cc in omega arith)
-        go (some q) f = let z : ReadAnswer.Refused r ≡ ReadAnswer.Refused q = sym e ∙ f in let y : r ≡ q = cc in ap refusing y
+        go : (o : Option Refusal) → a ≡ unless_refused o tt → Err r ≡ laid_unless o (script_in text)
+        go none f = let z : ◌≡◌ {A = Result ⊤ Refusal} (Err r) (Ok tt) = sym e ∙ f in absurd (let y : ◌≡◌ {A = ℕ} 0 1 = cc in omega arith)
+        go (some q) f = let z : ◌≡◌ {A = Result ⊤ Refusal} (Err r) (Err q) = sym e ∙ f in let y : r ≡ q = cc in ap {B = Result Question Refusal} (λ (p : Refusal). Err p) y
 
-    pub no_fault_told : a ≡ ReadAnswer.Accepted → fault_in text ≡ none
+    pub no_fault_told : a ≡ Ok tt → fault_in text ≡ none
     no_fault_told e = go (fault_in text) answered
       where
-        go : (o : Option Refusal) → a ≡ answer_by o → o ≡ none
+        go : (o : Option Refusal) → a ≡ unless_refused o tt → o ≡ none
         go none f = refl
-        go (some q) f = let z : ReadAnswer.Accepted ≡ ReadAnswer.Refused q = sym e ∙ f in absurd (let y : ◌≡◌ {A = ℕ} 0 1 = cc in omega arith)
+        go (some q) f = let z : ◌≡◌ {A = Result ⊤ Refusal} (Ok tt) (Err q) = sym e ∙ f in absurd (let y : ◌≡◌ {A = ℕ} 0 1 = cc in omega arith)
 
   -- ---- a script without fault
 
@@ -118,16 +110,19 @@ module _ (text : List ℕ) where
           some_asserted = asserted_there s.stage s.asserted (append_none (unsigned s.declarations) missing out.1).1;
         }
 
-    module _ (l : Laying) (n : l.n ≡ k.count) (laid : Lays (whole_laid text) l) where
-      laid_out_lem : laid_out l.n (formula_in text) ≡ imported text
-      unfolding imported
-      laid_out_lem = ap (λ (m : ℕ). laid_out m (formula_in text)) (n ∙ counted) ∙ ap (λ (o : Option Refusal). laid_unless o (script_in text)) (sym q) ∙ ap (λ (o : Option ℕ). imported_if o text) (sym p)
+    laid_out_lem : (n : ℕ) → n ≡ k.count → laid_out n (formula_in text) ≡ imported text
+    unfolding imported
+    laid_out_lem n e = ap (λ (m : ℕ). laid_out m (formula_in text)) (e ∙ counted) ∙ ap (λ (o : Option Refusal). laid_unless o (script_in text)) (sym q) ∙ ap (λ (o : Option ℕ). imported_if o text) (sym p)
 
-      pub limit_given : (l.refusal.number ≡ 0 → ⊥) → record { held = refusing (refusal l.refusal.number l.refusal.place); names = no_bounds } ≡ import_given text
-      limit_given z = refused_given l.refusal (laid_refused (formula_in text) l laid z ∙ laid_out_lem)
+    pub limit_given : (r : Refusal) → first_refused text ≡ some r → Err r ≡ import_given text
+    limit_given r e = refused_given r (laid_refused k.count (formula_in text) r e ∙ laid_out_lem k.count refl)
 
-      pub question_given : l.refusal.number ≡ 0 → record { held = record { answer = ReadAnswer.Accepted; question = laid_question l }; names = at_front (take (2 * k.count) k.bounds) no_bounds } ≡ import_given text
+    module _ (l : Laying) (laid : WholeLaidOr text k.count (Ok l)) where
+      pub few_laid : l.n ≤ most_variables
+      few_laid = rw laid.0 faultless_text.few
+
+      pub question_given : Ok (record { question = laid_question l; names = at_front (take (2 * k.count) k.bounds) (replicate (2 * most_variables) 0) }) ≡ import_given text
       unfolding import_given
-      question_given z =
-          ap {B = Import} (λ (c : List ℕ). record { held = record { answer = ReadAnswer.Accepted; question = laid_question l }; names = at_front c no_bounds }) (sym (kept_bounds text (script_in text) k h))
-          ∙ ap {B = Import} (λ (d : Held). record { held = d; names = bounds_if d.answer text }) (laid_accepted (formula_in text) l laid z ∙ laid_out_lem)
+      question_given =
+          ap {B = Result Import Refusal} (λ (c : List ℕ). Ok (record { question = laid_question l; names = at_front c (replicate (2 * most_variables) 0) })) (sym (kept_bounds text (script_in text) k h))
+          ∙ ap {B = Result Import Refusal} (λ (d : Result Question Refusal). given_by d text) (laid_accepted (formula_in text) l laid.1 ∙ laid_out_lem l.n laid.0)

@@ -1,37 +1,16 @@
--- The bounds of the names, one cell more at a time; and those that are kept are those of the declarations.
+-- The bounds that are kept are those of the declarations.
 use Prim.Native.Nat.{ℕ, zero, suc, ◌+◌, ◌*◌, ◌-◌, ◌≤◌, ◌<◌}
 use native.Mathlib.Omega.{arith}
 use mathlib.Core.Path.{◌≡◌, refl, sym, ap, ◌∙◌}
 use mathlib.Core.List.{List, ◌∷◌}
-use lib.ListN.{length, get_or, set, take, drop, length-drop, length-replicate}
-use lib.Seq.{take-suc, drop-cons, length-take-le}
-use Rattle.scope.specs.Whole.{at_front}
-use Rattle.scope.specs.Sizes.{most_variables}
-use Rattle.theory.specs.Numbers.Joined.{at_front_set}
+use lib.ListN.{length, get_or, take, drop, length-drop}
+use lib.Seq.{drop-cons, length-take-le}
 use Rattle.smtlib.specs.Script.{Script}
 use Rattle.smtlib.specs.Imported.{spelt_from, bounds_of}
 use Rattle.lexicon.specs.Spots.{stretch}
 use Rattle.terms.specs.Names.{name_at}
 use Rattle.script.specs.declared.Kept.{Kept}
 use Rattle.script.specs.Kept.{declaration_at, declarations_from, Keeps}
-use Rattle.importing.specs.Given.{no_bounds}
-
--- ---- one cell more
-
-pub bounds_begun : (bounds : List ℕ) → no_bounds ≡ at_front (take 0 bounds) no_bounds
-unfolding at_front
-bounds_begun bounds = refl
-
-pub bounds_more : (bounds : List ℕ) (i : ℕ) → i < length bounds → i < 2 * most_variables → set (at_front (take i bounds) no_bounds) i (get_or bounds i 0) ≡ at_front (take (i + 1) bounds) no_bounds
-bounds_more bounds i h k =
-    let so_many : length (take i bounds) ≡ i = length-take-le i bounds (omega (arith, h)) in
-    let next : suc i ≡ i + 1 = omega arith in
-    ap (λ (j : ℕ). set (at_front (take i bounds) no_bounds) j (get_or bounds i 0)) (sym so_many)
-    ∙ at_front_set (take i bounds) no_bounds (get_or bounds i 0) (omega (arith, so_many, k, length-replicate {A = ℕ} (2 * most_variables) 0))
-    ∙ ap (λ (l : List ℕ). at_front l no_bounds) (sym (take-suc bounds i 0 h) ∙ ap (λ (j : ℕ). take j bounds) next)
-
-pub bounds_done : (bounds : List ℕ) (i n : ℕ) (names : List ℕ) → i ≡ n → names ≡ at_front (take i bounds) no_bounds → names ≡ at_front (take n bounds) no_bounds
-bounds_done bounds i n names e h = h ∙ ap (λ (j : ℕ). at_front (take j bounds) no_bounds) e
 
 -- ---- those that are kept
 

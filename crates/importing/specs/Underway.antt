@@ -1,15 +1,18 @@
 -- The commands of a text without fault, walked one by one, with the assertions so far laid.
-use Rattle.std.specs.Prelude.{ℕ, suc, ◌≤◌, ◌<◌, ◌≡◌, Bool, true, false, List, [], ◌∷◌, ◌++◌, length}
+use Rattle.std.specs.Prelude.{ℕ, suc, ◌≤◌, ◌<◌, ◌≡◌, Bool, true, false, List, [], ◌∷◌, ◌++◌, length, Result, Ok, Err}
+use Rattle.std.proofs.Math.Option.{Option, some}
+use Rattle.scope.specs.declared.Refusal.{Refusal}
+use Rattle.scope.specs.Refusals.{first_refusal}
 use Rattle.scope.specs.Question.{Node}
 use Rattle.scope.specs.Sizes.{most_variables}
 use Rattle.smtlib.specs.Formulas.{Formula, Clause, joined_at, clauses_of}
 use Rattle.smtlib.specs.Script.{Script, names_of, script_from}
-use Rattle.smtlib.specs.Imported.{PlacedNode, connective, placed_from}
+use Rattle.smtlib.specs.Imported.{PlacedNode, connective, placed_from, placed_checks}
 use Rattle.smtlib.specs.Cases.{script_in, formula_in}
 use Rattle.forms.specs.Places.{forms_at, Unbroken}
 use Rattle.terms.specs.Names.{names_in, NamesStand}
 use Rattle.laying.specs.declared.Laying.{Laying}
-use Rattle.laying.specs.Laid.{Layable, Lays, LaysMore}
+use Rattle.laying.specs.Laid.{Layable, Lays, LaysMore, Refuses}
 use Rattle.laying.specs.Noted.{at_depth}
 use Rattle.importing.specs.declared.commands.Progress.{Progress}
 
@@ -31,20 +34,29 @@ pub record FaultlessText (text bounds : List ℕ) (count : ℕ) : Type 0 where
 abbrev pub join_laid : ℕ → Clause → List PlacedNode → List PlacedNode
 join_laid depth c later = connective c.place depth Node.and ∷ (placed_from (suc depth) c.formula ++ later)
 
--- it is refused, or what is laid next is behind it
+-- what is laid or refused next is behind it
 pub record JoinLaid (c : Clause) (before after : Laying) : Type 0 where
-  pub stopped : (after.refusal.number ≡ 0 → ⊥) → (ys : List PlacedNode) → LaysMore (join_laid before.depth c ys) before (at_depth after before.depth)
-  pub ready : after.refusal.number ≡ 0 → Layable after
-  pub deeper : after.refusal.number ≡ 0 → after.depth ≡ suc before.depth
-  pub onward : after.refusal.number ≡ 0 → (ys : List PlacedNode) (later : Laying) → LaysMore ys after later → LaysMore (join_laid before.depth c ys) before (at_depth later before.depth)
+  pub ready : Layable after
+  pub deeper : after.depth ≡ suc before.depth
+  pub onward : (ys : List PlacedNode) (later : Laying) → LaysMore ys after later → LaysMore (join_laid before.depth c ys) before (at_depth later before.depth)
+  pub refused : (ys : List PlacedNode) (r : Refusal) → Refuses ys after r → Refuses (join_laid before.depth c ys) before r
 
 pub record AssertionLaid (more : Bool) (c : Clause) (before after : Laying) : Type 0 where
   pub n_kept : after.n ≡ before.n
   pub joins : more ≡ true → JoinLaid c before after
   pub last : more ≡ false → LaysMore (placed_from before.depth c.formula) before after
 
-unfoldable pub AssertionLays : List ℕ → ℕ → List (List ℕ) → Bool → Laying → Laying → Type 0
-AssertionLays text at names more before after = (c : Clause) (rest : List Clause) → clauses_of names (forms_at text at) ≡ c ∷ rest → AssertionLaid more c before after
+-- refused, whatever is to come
+pub record AssertionRefused (more : Bool) (c : Clause) (before : Laying) (r : Refusal) : Type 0 where
+  pub joined : more ≡ true → (ys : List PlacedNode) → Refuses (join_laid before.depth c ys) before r
+  pub last : more ≡ false → Refuses (placed_from before.depth c.formula) before r
+
+abbrev pub AssertionLaidOr : Bool → Clause → Laying → Result Laying Refusal → Type 0
+AssertionLaidOr more c before (Ok after) = AssertionLaid more c before after
+AssertionLaidOr more c before (Err r) = AssertionRefused more c before r
+
+unfoldable pub AssertionLays : List ℕ → ℕ → List (List ℕ) → Bool → Laying → Result Laying Refusal → Type 0
+AssertionLays text at names more before r = (c : Clause) (rest : List Clause) → clauses_of names (forms_at text at) ≡ c ∷ rest → AssertionLaidOr more c before r
 
 -- ---- how far it is laid
 
@@ -55,6 +67,9 @@ rest_laid depth (c ∷ cs) = placed_from depth (joined_at Formula.and c.place c 
 
 abbrev pub whole_laid : List ℕ → List PlacedNode
 whole_laid text = placed_from 1 (formula_in text)
+
+abbrev pub first_refused : List ℕ → Option Refusal
+first_refused text = first_refusal (placed_checks 0 0 (whole_laid text))
 
 pub record Underway (text : List ℕ) (p : Progress) : Type 0 where
   pub so_far : Script
@@ -67,10 +82,18 @@ pub record Underway (text : List ℕ) (p : Progress) : Type 0 where
   pub left_is : p.left ≡ length clauses
   pub ready : Layable p.laying
   pub onward : (later : Laying) → LaysMore (rest_laid p.laying.depth clauses) p.laying later → Lays (whole_laid text) later
+  pub refused : (r : Refusal) → Refuses (rest_laid p.laying.depth clauses) p.laying r → first_refused text ≡ some r
 
--- laid to the end, or refused, or on the way
+-- laid to the end, or on the way
 pub record LaidSoFar (text : List ℕ) (n : ℕ) (p : Progress) : Type 0 where
   pub n_is : p.laying.n ≡ n
   pub done : p.left ≡ 0 → Lays (whole_laid text) p.laying
-  pub refused : (p.laying.refusal.number ≡ 0 → ⊥) → Lays (whole_laid text) p.laying
-  pub underway : p.laying.refusal.number ≡ 0 → 0 < p.left → Underway text p
+  pub underway : 0 < p.left → Underway text p
+
+abbrev pub LaidSoFarOr : List ℕ → ℕ → Result Progress Refusal → Type 0
+LaidSoFarOr text n (Ok p) = LaidSoFar text n p
+LaidSoFarOr text n (Err r) = first_refused text ≡ some r
+
+abbrev pub WholeLaidOr : List ℕ → ℕ → Result Laying Refusal → Type 0
+WholeLaidOr text n (Ok l) = (l.n ≡ n) × Lays (whole_laid text) l
+WholeLaidOr text n (Err r) = first_refused text ≡ some r

@@ -1,5 +1,5 @@
 -- What it is for `links` to index the first `count` rows of a key area, of `width` cells each, and what the calls on an index ask and ensure.
-use Rattle.std.specs.Prelude.{◌≡◌, Bool, true, false, List, ℕ, ◌+◌, ◌*◌, ◌≤◌, ◌<◌, length, get_or, take, ℤ, pos}
+use Rattle.std.specs.Prelude.{◌≡◌, Bool, true, false, List, Option, MatchOption, ℕ, ◌+◌, ◌*◌, ◌≤◌, ◌<◌, length, get_or, take, ℤ, pos}
 use Rattle.std.proofs.Math.Seq.{paste}
 use Rattle.index.specs.Rows.{row_at}
 use Rattle.index.specs.Hash.{bucket_of}
@@ -39,11 +39,9 @@ pub record Indexed (keys : List ℤ) (width : ℕ) (links : List ℕ) (count : �
   pub sized : IndexSized keys width links count
   pub chained : Chained (bucket_at keys width (buckets links)) links count
 
--- r is a row below count with the key's cells, or count where there is none
-pub record Finds (keys : List ℤ) (width : ℕ) (key : List ℤ) (count r : ℕ) : Type 0 where
-  pub low : r ≤ count
-  pub row : r < count → row_at keys width r ≡ take width key
-  pub none : r ≡ count → (s : ℕ) → s < count → row_at keys width s ≡ take width key → ⊥
+-- the row below count that has the key's cells, or that there is none
+pub record Finds (keys : List ℤ) (width : ℕ) (key : List ℤ) (count : ℕ) (found : Option ℕ) : Type 0 where
+  pub says : MatchOption found ((s : ℕ) → s < count → row_at keys width s ≡ take width key → ⊥) (λ r. (r < count) × (row_at keys width r ≡ take width key))
 
 -- there is room for row count
 pub record Room (keys : List ℤ) (width : ℕ) (links : List ℕ) (count : ℕ) : Type 0 where

@@ -14,14 +14,14 @@ ghost use Rattle.scope.specs.Sizes.{most_atoms, most_states};
 use scope::Question;
 
 // No row: the link of a bucket that has none, and of a bucket's oldest row. Where every bucket has it, no row is indexed.
-// It is the first number that no row can have.
+// It is the first number that no row can have. A link is a cell of 16 bits in fixed memory, and an Option would take two.
 pub const NONE: u16 = Question::STATES as u16;
 
 // A cell as a number that is not negative. By way of 32 bits, so that the compiler sees that it has no more, and multiplies two cells at once.
 fn code(x: i32) -> usize
     ensures { (result ≡ cell_code x) × (result < 4294967296) }
 {
-    (x as i64 + 2_147_483_648) as u32 as usize
+    (i64::from(x) + 2_147_483_648) as u32 as usize
 }
 
 // The hash of a key: the codes of its cells, each by an odd number of its own, are added up, and then the halves of the sum: a dead cell and
@@ -75,27 +75,25 @@ pub fn same_row(keys: &[i32], width: usize, row: usize, key: &[i32; Question::AT
         }
         from = 4;
     }
-    let mut i = 0;
-    while i < 4 {
+    for i in 0..4 {
         let at = from + i;
         if at < width {
             if keys[base + at] != key[at] {
                 return false;
             }
         }
-        i += 1;
     }
     true
 }
 
-// The row below count that has the key's first `width` cells, or count where there is none.
+// The row below count that has the key's first `width` cells, where there is one.
 pub fn find(
     keys: &[i32],
     width: usize,
     key: &[i32; Question::ATOMS],
     links: &[u16],
     count: usize,
-) -> usize
+) -> Option<usize>
     requires indexed { Indexed keys.now width links.now count }
     requires key { Key width key.now }
     ensures { Finds keys.now width key.now count result }
@@ -103,14 +101,15 @@ pub fn find(
     let n = links.len() / 2;
     let b = bucket(key, n);
     let mut link = links[b];
+    // A chain of links has no index to count.
     while link != NONE {
-        let row = link as usize;
+        let row = usize::from(link);
         if same_row(keys, width, row, key) {
-            return row;
+            return Some(row);
         }
         link = links[n + row];
     }
-    count
+    None
 }
 
 // Stores the key's first `width` cells as the row's.
@@ -119,11 +118,10 @@ pub fn store_row(keys: &mut [i32], width: usize, row: usize, key: &[i32; Questio
     ensures { keys.new ≡ paste keys.old (row * width) key.now width }
 {
     let base = row * width;
-    let mut i = 0;
-    while i < width {
+    // Cell by cell: copy_from_slice calls for a copy of any length, and deciding takes a fifth more.
+    for i in 0..width {
         let x = key[i];
         keys[base + i] = x;
-        i += 1;
     }
 }
 
@@ -134,11 +132,10 @@ pub fn load_row(keys: &[i32], width: usize, row: usize) -> [i32; Question::ATOMS
 {
     let base = row * width;
     let mut key = [0i32; Question::ATOMS];
-    let mut i = 0;
-    while i < width {
+    // Cell by cell, as in store_row.
+    for i in 0..width {
         let x = keys[base + i];
         key[i] = x;
-        i += 1;
     }
     key
 }
@@ -178,10 +175,8 @@ pub fn insert_rows(keys: &[i32], width: usize, links: &mut [u16], count: usize)
     requires index_sized { IndexSized keys.now width links.old count }
     ensures { Indexed keys.now width links.new count }
 {
-    let mut row = 0;
-    while row < count {
+    for row in 0..count {
         let key = load_row(keys, width, row);
         insert(&key, links, row);
-        row += 1;
     }
 }

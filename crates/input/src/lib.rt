@@ -16,6 +16,7 @@ pub fn read_full<R: Read>(input: &mut R, buffer: &mut [u8]) -> io::Result<usize>
     ensures end { IfOk result (λ count. count < length buffer.new → IsAtEnd (R.remaining input.new)) }
 {
     let mut count = 0;
+    // A read says how far it goes, so nothing counts here.
     while count < buffer.len() {
         let more = input.read(&mut buffer[count..])?;
         if more == 0 {

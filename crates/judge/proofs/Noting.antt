@@ -19,8 +19,8 @@ use Rattle.theory.specs.Numbers.Sums.{small_get_d}
 use Rattle.theory.specs.Entries.KeyCells.{numbers_fit_lem}
 use Rattle.formula.specs.Alike.{worth_alike}
 use Rattle.judge.specs.Sums.{coefficients_from, Summable}
-use Rattle.judge.specs.Atoms.{NextAtom, question_for, Judgeable, Worths}
-use Rattle.judge.proofs.AtomKinds.{kinds_atom}
+use Rattle.judge.specs.Atoms.{Judgeable, Worths}
+use Rattle.judge.proofs.AtomKinds.{kinds_skip, kinds_atom}
 
 -- the kinds from a node on
 abbrev kinds_from : Question → ℕ → List Kind
@@ -30,11 +30,9 @@ kinds_from q at = kinds_of (drop at (map node_of q.codes))
 abbrev worths_from : Question → List ℕ → ℕ → List Kind → List Bool
 worths_from q values atom κs = map (λ (a : Atom). holds a values) (atoms_from q atom κs)
 
--- the atoms before a number are noted, and the node is that of the next one
+-- the atoms before a number, which stand before a node, are noted
 pub record WorthsNoted (q : Question) (values : List ℕ) (worths : List Bool) (atom at : ℕ) : Type 0 where
   pub whole : length worths ≡ 8
-  pub within : at ≤ 64
-  pub starts : at < 64 → is_atom (node_of (get_or q.codes at 0)) ≡ true
   pub count : atom + length (kinds_from q at) ≡ length (kinds_from q 0)
   pub done : take atom worths ++ worths_from q values atom (kinds_from q at) ≡ worths_from q values 0 (kinds_from q 0)
   pub clear : (i : ℕ) → atom ≤ i → get_or worths i false ≡ false
@@ -46,19 +44,23 @@ clear_start i =
     (λ h. get_or-eq_default (replicate 8 false) false {n = i} (omega arith))
 
 module _ {q : Question} {values : List ℕ} (j : Judgeable q values) where
-  pub noted_start : {at : ℕ} → NextAtom q.codes 0 at → WorthsNoted q values (replicate 8 false) 0 at
-  noted_start {at} s = record {
-    whole = refl;
-    within = s.within;
-    starts = s.atom;
-    count = omega (arith, ap length s.passed);
-    done = ap (worths_from q values 0) (sym s.passed);
-    clear = λ i h. clear_start i;
-  }
+  pub noted_start : WorthsNoted q values (replicate 8 false) 0 0
+  noted_start = record { whole = refl; count = omega arith; done = refl; clear = λ i h. clear_start i }
 
-  module _ {worths : List Bool} {atom at : ℕ} (g : WorthsNoted q values worths atom at) (l : at < 64) where
+  -- a node that is no atom's
+  pub noted_skip : {worths : List Bool} {atom at : ℕ} → WorthsNoted q values worths atom at → at < 64 → is_atom (node_of (get_or q.codes at 0)) ≡ false → WorthsNoted q values worths atom (at + 1)
+  noted_skip {worths} {atom} {at} g l e =
+      let k : kinds_from q at ≡ kinds_from q (at + 1) = kinds_skip q.codes at (omega (arith, j.limits.sized.codes)) e in
+      record {
+        whole = g.whole;
+        count = omega (arith, g.count, ap length k);
+        done = ap (λ (κs : List Kind). take atom worths ++ worths_from q values atom κs) (sym k) ∙ g.done;
+        clear = g.clear;
+      }
+
+  module _ {worths : List Bool} {atom at : ℕ} (g : WorthsNoted q values worths atom at) (l : at < 64) (starts : is_atom (node_of (get_or q.codes at 0)) ≡ true) where
     kinds_are : kinds_from q at ≡ kind_of_code (get_or q.codes at 0) ∷ kinds_from q (at + 1)
-    kinds_are = kinds_atom q.codes at (omega (arith, j.limits.sized.codes)) (g.starts l)
+    kinds_are = kinds_atom q.codes at (omega (arith, j.limits.sized.codes)) starts
 
     -- there is an atom left
     left_over : atom + 1 + length (kinds_from q (at + 1)) ≡ length (kinds_from q 0)
@@ -70,9 +72,6 @@ module _ {q : Question} {values : List ℕ} (j : Judgeable q values) where
     pub atom_within : atom < 8
     unfolding nodes_of
     atom_within = omega (arith, atom_numbered, j.limits.atoms)
-
-    pub fewer_left : {next : ℕ} → NextAtom q.codes (at + 1) next → length (kinds_from q next) < length (kinds_from q at)
-    fewer_left s = omega (arith, ap length kinds_are, ap length s.passed)
 
     -- its numbers are within their limits
     pub atom_summable : Summable q.coefficients (6 * atom) values
@@ -91,26 +90,24 @@ module _ {q : Question} {values : List ℕ} (j : Judgeable q values) where
           value = j.small;
         }
 
-    module _ {next : ℕ} (b : Bool) (s : NextAtom q.codes (at + 1) next)
+    module _ (b : Bool)
         (e : b ≡ compares (kind_of_code (get_or q.codes at 0)) (dot (coefficients_from q.coefficients (6 * atom) values) values) (get_or q.constants atom (pos 0))) where
       -- what is noted is what the atom is worth
-      worth_is : worths_from q values atom (kinds_from q at) ≡ b ∷ worths_from q values (atom + 1) (kinds_from q next)
+      worth_is : worths_from q values atom (kinds_from q at) ≡ b ∷ worths_from q values (atom + 1) (kinds_from q (at + 1))
       unfolding atoms_from holds coefficients_of constant_of
       worth_is =
           ap (worths_from q values atom) kinds_are ∙
-          (λ i. (sym (e ∙ ap (λ (n : ℕ). compares (kind_of_code (get_or q.codes at 0)) (dot (take n (drop (6 * atom) q.coefficients)) values) (get_or q.constants atom (pos 0))) j.count)) i ∷ worths_from q values (sym (add-one atom) i) (s.passed i))
+          (λ i. (sym (e ∙ ap (λ (n : ℕ). compares (kind_of_code (get_or q.codes at 0)) (dot (take n (drop (6 * atom) q.coefficients)) values) (get_or q.constants atom (pos 0))) j.count)) i ∷ worths_from q values (sym (add-one atom) i) (kinds_from q (at + 1)))
 
-      pub noted_more : WorthsNoted q values (set worths atom b) (atom + 1) next
+      pub noted_more : WorthsNoted q values (set worths atom b) (atom + 1) (at + 1)
       noted_more = record {
         whole = length-set worths atom b ∙ g.whole;
-        within = s.within;
-        starts = s.atom;
-        count = omega (arith, left_over, ap length s.passed);
+        count = left_over;
         done =
             let n : atom < length worths = omega (arith, atom_within, g.whole) in
             let t : take (atom + 1) (set worths atom b) ≡ take atom worths ++ (b ∷ []) = rw (add-one atom) (take-suc-set worths atom b n) in
-            ap (λ (ws : List Bool). ws ++ worths_from q values (atom + 1) (kinds_from q next)) t ∙
-            append_snoc (take atom worths) b (worths_from q values (atom + 1) (kinds_from q next)) ∙
+            ap (λ (ws : List Bool). ws ++ worths_from q values (atom + 1) (kinds_from q (at + 1))) t ∙
+            append_snoc (take atom worths) b (worths_from q values (atom + 1) (kinds_from q (at + 1))) ∙
             ap (λ (ws : List Bool). take atom worths ++ ws) (sym worth_is) ∙
             g.done;
         clear = λ i h. get_or-set_other worths atom i b false (λ z. omega arith) ∙ g.clear i (omega arith);
@@ -129,11 +126,6 @@ module _ {q : Question} {values : List ℕ} (j : Judgeable q values) where
             (λ l. sym (get_or-take atom worths i false l) ∙ ap (λ (ws : List Bool). get_or ws i false) all)
             (λ l. g.clear i (omega arith) ∙ sym (get_or-eq_default (take atom worths) false {n = i} (simp length-take (omega arith))) ∙ ap (λ (ws : List Bool). get_or ws i false) all);
       }
-
--- ---- the question of its parts
-
-pub asked_is : (q : Question) (values : List ℕ) → length values ≡ q.n → question_for q.codes q.coefficients q.constants values ≡ q
-asked_is q values e = λ i. record { n = e i; codes = q.codes; coefficients = q.coefficients; constants = q.constants }
 
 pub worths_satisfy : (q : Question) (values : List ℕ) (worths : List Bool) → Worths q values worths → formula_worth (map node_of q.codes) worths ≡ satisfied q values
 unfolding satisfied nodes_of

@@ -1,36 +1,25 @@
--- An atom's numbers: within a limit either way, on the other side of a comparison, and in a row. Assumes nothing.
-use mathlib.Core.Path.{◌≡◌, refl, sym, ap, ◌∙◌}
+-- An atom's numbers: on the other side of a comparison, and in a row. Assumes nothing.
+use mathlib.Core.Path.{◌≡◌, refl, ap, ◌∙◌}
 use mathlib.Core.Bool.{Bool, true, false, cond}
 use mathlib.Core.List.{List}
 use Prim.Native.Nat.{ℕ, suc, ◌+◌, ◌-◌, ◌≤◌, ◌<◌}
 use native.Mathlib.Omega.{arith}
-use borrow.Author.Tests.{ltb-true, ltb-false, le-leb, lt-leb, leb-true, eq-eqb, ne_eqb, eqb-false}
+use borrow.Author.Tests.{leb-true, eq-eqb, ne_eqb, eqb-false}
 use lib.Dec.{T, leb, eqb}
 use lib.Ieee.Bits.{is_true}
-use lib.IntN.{ℤ, pos, negsuc, nat_abs, neg_ℤ, ◌-ℤ◌, +ℤ_idl}
+use lib.IntN.{ℤ, pos, nat_abs, neg_ℤ, ◌-ℤ◌, +ℤ_idl}
 use lib.ListN.{length, get_or, set, take, drop, length-drop}
 use lib.Seq.{sets, drop-cons, get_or-drop}
-use lib.Signed.{lt_z, le_z}
 use mir.Syntax.{w64}
 use mir.Val.{SFits}
 use Rattle.scope.specs.Sizes.{most_constant, coefficient_fits}
-use Rattle.scope.specs.Whole.{all}
+use Rattle.std.specs.List.{list_all}
 use Rattle.scope.specs.Question.{Node, code_of}
 use Rattle.smtlib.specs.Terms.{at_most, below, at_least, above, most_collected, collected_fit}
 use Rattle.smtlib.specs.Formulas.{kind_for, lowered}
 use Rattle.theory.specs.Numbers.Magnitude.{abs_sub, fits_abs}
 use Rattle.theory.specs.Numbers.Tests.{all_each}
 use Rattle.laying.specs.Noted.{relation_of, comparison_code}
-
--- ---- a limit, suc k either way
-
-pub below_limit : (z : ℤ) (k : ℕ) → lt_z z (negsuc k) ≡ true → false ≡ leb (nat_abs z) (suc k)
-below_limit (pos a) k e = let y : ◌≡◌ {A = ℕ} 0 1 = cc in absurd (omega arith)
-below_limit (negsuc a) k e = sym (lt-leb (suc a) (suc k) (omega (arith, ltb-true k a e)))
-
-pub above_limit : (z : ℤ) (k : ℕ) → lt_z z (negsuc k) ≡ false → le_z z (pos (suc k)) ≡ leb (nat_abs z) (suc k)
-above_limit (pos a) k e = refl
-above_limit (negsuc a) k e = sym (le-leb (suc a) (suc k) (omega (arith, ltb-false k a e)))
 
 -- ---- the other side
 
@@ -100,7 +89,7 @@ unfolding collected_fit
 collected_small numbers t h = leb-true (nat_abs (get_or numbers 0 (pos 0))) most_collected (all_each (λ z. leb (nat_abs z) most_collected) numbers (pos 0) (is_true (collected_fit numbers) t) 0 h)
 
 -- a coefficient that was passed
-pub coefficient_small : (numbers : List ℤ) (i : ℕ) → all coefficient_fits (drop 1 numbers) ≡ true → i + 1 < length numbers → nat_abs (get_or numbers (i + 1) (pos 0)) ≤ most_constant
+pub coefficient_small : (numbers : List ℤ) (i : ℕ) → list_all coefficient_fits (drop 1 numbers) ≡ true → i + 1 < length numbers → nat_abs (get_or numbers (i + 1) (pos 0)) ≤ most_constant
 coefficient_small numbers i e h =
     let f : coefficient_fits (get_or (drop 1 numbers) i (pos 0)) ≡ true = all_each coefficient_fits (drop 1 numbers) (pos 0) e i (omega (arith, length-drop 1 numbers)) in
     rw (← drop_one numbers i) (omega (arith, leb-true (nat_abs (get_or (drop 1 numbers) i (pos 0))) 4096 f))

@@ -5,11 +5,16 @@ use native.Mathlib.Omega.{arith}
 use mathlib.Core.Path.{◌≡◌, refl, sym, ap, ◌∙◌, subst}
 use mathlib.Core.Logic.{by_cases}
 use mathlib.Core.Bool.{Bool, true, false, not, cond}
-use mathlib.Core.Option.{none, some}
+use mathlib.Core.Option.{Option, none, some}
 use mathlib.Core.List.{List, [], ◌∷◌}
 use lib.ListN.{length}
 use lib.Dec.{T, eqb}
-use borrow.Author.Tests.{eq-eqb, ne_eqb}
+use borrow.Author.Tests.{eq-eqb, ne_eqb, eqb-true}
+use Rattle.std.proofs.Common.{Result, Ok, Err}
+use Rattle.std.specs.Result.{IfOk}
+use Rattle.std.specs.Prelude.{Some, None, is_some}
+use Rattle.lexicon.specs.Spots.{Position, spot_of, spot_some}
+use Rattle.scope.specs.declared.Refusal.{Refusal}
 use Rattle.scope.specs.Question.{node_of}
 use Rattle.smtlib.specs.Lexicon.{most_nesting}
 use Rattle.smtlib.specs.Forms.{nothing, outermost}
@@ -18,18 +23,20 @@ use Rattle.smtlib.specs.Formulas.{Clause, list_clause, clauses_of}
 use Rattle.smtlib.specs.Imported.{connective, placed_from}
 use Rattle.forms.specs.Places.{forms_at, outer, around, Unbroken}
 use Rattle.forms.specs.Read.{rest_of}
-use Rattle.terms.specs.declared.TermPart.{TermPart}
+use Rattle.terms.specs.declared.ListTerm.{ListTerm}
+use Rattle.terms.specs.declared.heads.ListKind.{ListKind}
+use Rattle.terms.specs.Heads.{word_code, KindSays}
 use Rattle.terms.specs.Read.{ListReads, Inside}
 use Rattle.laying.specs.declared.Laying.{Laying}
 use Rattle.laying.specs.declared.Laid.{Laid}
 use Rattle.laying.specs.declared.lists.ListStart.{ListStart}
 use Rattle.laying.specs.declared.lists.PartEnd.{PartEnd}
-use Rattle.laying.specs.Laid.{Layable, LaysMore}
+use Rattle.laying.specs.Laid.{Layable, LaysMore, Refuses}
 use Rattle.laying.specs.Noted.{at_depth, relation_of, comparison_laid}
 use Rattle.laying.specs.Deeper.{DeepenedIf}
-use Rattle.laying.specs.Texts.{FirstFaultless, AllFaultless, HeadedList, ListStarts, ListLaid, ListLays, PartEnded, PartEnds, join_code, PartsLaid, ClauseLaid, ClauseLays}
-use Rattle.laying.specs.More.{more_refused, more_depth_back}
-use Rattle.laying.specs.Joins.{clause_start, JoinsOnward, joins_begun, joins_ready, join_refused, last_joined, part_refused, joins_onward}
+use Rattle.laying.specs.Texts.{FirstFaultless, AllFaultless, HeadedList, ListStarts, ListLaid, ListLays, PartEnded, PartEnds, join_code, PartsLaid, PartsLaidOr, ClauseLaid, ClauseLays}
+use Rattle.laying.specs.More.{more_depth_back, refused_before}
+use Rattle.laying.specs.Joins.{clause_start, joined_nodes, JoinsOnward, joins_begun, joins_ready, join_refused, last_joined, part_refused, joins_onward}
 use Rattle.laying.proofs.Clauses.{relation_code, sides_told, ConnectiveTold, connective_told, head_known, clause_start_lem, FirstPart, first_part, later_parts}
 
 first_same : {c d : Clause} {cs ds : List Clause} → ◌≡◌ {A = List Clause} (c ∷ cs) (d ∷ ds) → c ≡ d
@@ -38,23 +45,58 @@ first_same e = cc
 later_same : {c d : Clause} {cs ds : List Clause} → ◌≡◌ {A = List Clause} (c ∷ cs) (d ∷ ds) → cs ≡ ds
 later_same e = cc
 
+-- where what was laid ends
+pub sides_further : (at next most : ℕ) (r : Result Laid Refusal) → at < next → IfOk r (λ q. (next < q.next) × (q.next ≤ most)) → IfOk r (λ q. (at < q.next) × (q.next ≤ most))
+sides_further at next most (Ok q) l h = (omega (arith, l, h.0), h.1)
+sides_further at next most (Err e) l h = tt
+
+-- what is behind a part, as the joins have it
+abbrev is_last : Position → Bool
+is_last None = true
+is_last (Some at) = false
+
+abbrev place_of : Position → ℕ
+place_of None = 0
+place_of (Some at) = at
+
+asked : (o : Position) → is_some o ≡ not (is_last o)
+asked None = refl
+asked (Some at) = refl
+
+another_not_last : (o : Position) → is_some o ≡ true → is_last o ≡ false
+another_not_last None e = sym e
+another_not_last (Some at) e = refl
+
+starts_as : (x : Option ℕ) (o : Position) → o ≡ spot_of x → x ≡ cond (is_last o) none (some (place_of o))
+starts_as none o e = rw e refl
+starts_as (some at) o e = rw e refl
+
 -- ---- comparisons
 
-pub sides_small : (text : List ℕ) (at depth : ℕ) (names : List (List ℕ)) (head place : ℕ) (sides : TermPart) → 3 ≤ head → head ≤ 7 → ListReads text at depth names head place sides → T (collected_fit sides.numbers)
+pub sides_small : (text : List ℕ) (at depth : ℕ) (names : List (List ℕ)) (head place : ℕ) (sides : ListTerm) → 3 ≤ head → head ≤ 7 → ListReads text at depth names head place sides → T (collected_fit sides.term.numbers)
 unfolding ListReads
 sides_small text at depth names head place sides l m reads = (reads (compare (relation_of head)) (relation_code head l m)).says.within_limit
 
-pub sides_laid : (text : List ℕ) (at depth : ℕ) (names : List (List ℕ)) (head place : ℕ) (before after : Laying) (sides : TermPart) → 3 ≤ head → head ≤ 7
-    → ListReads text at depth names head place sides → LaysMore (comparison_laid before.depth head place sides.numbers ∷ []) before after
-    → ListLays text at depth names head place before (record { laying = after; next = sides.next })
-unfolding ListReads ListLays
-sides_laid text at depth names head place before after sides l m reads laid h e f =
-    let read = reads h e in
-    let told = sides_told before.depth head place h (terms_of names (forms_at text at)) (clauses_of names (forms_at text at)) l m e f in
-    record {
-      laid = rw (told.placed, ← read.says.numbers_are told.gathered_faultless) laid;
-      closed = λ z. read.closed;
-    }
+module _ (text : List ℕ) (at depth : ℕ) (names : List (List ℕ)) (head place : ℕ) (before : Laying) (sides : ListTerm) (l : 3 ≤ head) (m : head ≤ 7) (reads : ListReads text at depth names head place sides) where
+  pub sides_laid : (after : Laying) → LaysMore (comparison_laid before.depth head place sides.term.numbers ∷ []) before after → ListLays text at depth names head place before (Ok (record { laying = after; next = sides.next }))
+  unfolding ListReads ListLays
+  sides_laid after laid h e f =
+      let read = reads h e in
+      let told = sides_told before.depth head place h (terms_of names (forms_at text at)) (clauses_of names (forms_at text at)) l m e f in
+      record { laid = rw (told.placed, ← read.says.numbers_are told.gathered_faultless) laid; closed = read.closed }
+
+  pub sides_refused : (r : Refusal) → Refuses (comparison_laid before.depth head place sides.term.numbers ∷ []) before r → ListLays text at depth names head place before (Err r)
+  unfolding ListReads ListLays
+  sides_refused r k h e f =
+      let read = reads h e in
+      let told = sides_told before.depth head place h (terms_of names (forms_at text at)) (clauses_of names (forms_at text at)) l m e f in
+      rw (told.placed, ← read.says.numbers_are told.gathered_faultless) k
+
+pub no_comparison : {code : ℕ} (k : ListKind) → KindSays code k → (k ≡ ListKind.Comparison → ⊥) → 3 ≤ code → 8 ≤ code
+no_comparison ListKind.Term t n l = omega (arith, t, l)
+no_comparison ListKind.Comparison t n l = absurd (n refl)
+no_comparison ListKind.Connective t n l = t.0
+no_comparison ListKind.Other t n l = omega (arith, t)
 
 -- ---- the list that stands next
 
@@ -79,7 +121,7 @@ module _ {text : List ℕ} {at nesting : ℕ} {names : List (List ℕ)} {s : Lis
   pub parts_inside : s.next ≤ length text → Inside text s.next (nesting - 1)
   parts_inside l = record { here = l; left = omega (arith, i.left); unbroken = rw deeper g.unbroken }
 
-  pub head_least : 3 ≤ s.code
+  pub head_least : 3 ≤ (word_code s.head)
   head_least = omega (arith, g.code_is, head_known g.head s.place _ _ g.faultless)
 
   abbrev terms : List Term
@@ -88,59 +130,55 @@ module _ {text : List ℕ} {at nesting : ℕ} {names : List (List ℕ)} {s : Lis
   abbrev parts : List Clause
   parts = clauses_of names (forms_at text s.next)
 
-  clause_laid : (before : Laying) (r : Laid) → ListLaid text s.next (most_nesting - (nesting - 1)) names g.head s.place before r → ClauseLays text at (most_nesting - nesting) names before r
+  clause_laid : (before : Laying) (r : Laid) → ListLaid text s.next (most_nesting - (nesting - 1)) names g.head s.place before r → ClauseLays text at (most_nesting - nesting) names before (Ok r)
   unfolding ClauseLays
   clause_laid before r l c rest e =
       let same : list_clause g.head s.place terms parts ≡ c = first_same (sym g.clauses ∙ e) in
       let behind : most_nesting - (nesting - 1) - 1 ≡ most_nesting - nesting = omega (arith, deeper) in
       record {
         laid = subst (λ (d : Clause). LaysMore (placed_from before.depth d.formula) before r.laying) same l.laid;
-        clauses = λ z. g.clauses ∙ (λ j. same j ∷ clauses_of names (outermost (sym (l.closed z).levels j)));
-        levels = λ z. ap outer (l.closed z).levels ∙ g.levels;
-        unbroken = λ z. rw behind at (l.closed z).unbroken;
+        clauses = g.clauses ∙ (λ j. same j ∷ clauses_of names (outermost (sym l.closed.levels j)));
+        levels = ap outer l.closed.levels ∙ g.levels;
+        unbroken = rw behind at l.closed.unbroken;
       }
 
+  clause_refused : (before : Laying) (r : Refusal) → Refuses (placed_from before.depth (list_clause g.head s.place terms parts).formula) before r → ClauseLays text at (most_nesting - nesting) names before (Err r)
+  unfolding ClauseLays
+  clause_refused before r k c rest e = subst (λ (d : Clause). Refuses (placed_from before.depth d.formula) before r) (first_same (sym g.clauses ∙ e)) k
+
   -- a comparison
-  pub sides_clause : (before : Laying) (r : Laid) → ListLays text s.next (most_nesting - (nesting - 1)) names s.code s.place before r → ClauseLays text at (most_nesting - nesting) names before r
+  pub sides_clause : (before : Laying) (r : Result Laid Refusal) → ListLays text s.next (most_nesting - (nesting - 1)) names (word_code s.head) s.place before r → ClauseLays text at (most_nesting - nesting) names before r
   unfolding ListLays
-  sides_clause before r lays = clause_laid before r (lays g.head g.code_is g.faultless)
+  sides_clause before (Ok r) lays = clause_laid before r (lays g.head g.code_is g.faultless)
+  sides_clause before (Err r) lays = clause_refused before r (lays g.head g.code_is g.faultless)
 
   -- a connective: a negation first, and then its parts
-  module _ (l : 8 ≤ s.code) (before begun : Laying) (ready : Layable before) (d : DeepenedIf (eqb s.code 8) (connective s.place before.depth (node_of 3)) before begun) where
-    told : ConnectiveTold before.depth s.code s.place g.head terms parts
-    told = connective_told before.depth s.code s.place g.head terms parts l g.code_is g.faultless
+  module _ (l : 8 ≤ (word_code s.head)) (before : Laying) where
+    told : ConnectiveTold before.depth (word_code s.head) s.place g.head terms parts
+    told = connective_told before.depth (word_code s.head) s.place g.head terms parts l g.code_is g.faultless
 
     pub parts_sound : AllFaultless parts
     parts_sound = told.parts_faultless
 
-    pub parts_ready : begun.refusal.number ≡ 0 → Layable begun
-    parts_ready z = by_cases (ℕ_discrete s.code 8)
-        (λ e. (d.asked_for (eq-eqb s.code 8 e)).ready z)
-        (λ n. rw (d.as_before (ne_eqb s.code 8 n)) ready)
+    pub negation_refused : (r : Refusal) → eqb (word_code s.head) 8 ≡ true → Refuses (connective s.place before.depth (node_of 3) ∷ []) before r → ClauseLays text at (most_nesting - nesting) names before (Err r)
+    negation_refused r e k = clause_refused before r (rw (told.negates (eqb-true (word_code s.head) 8 e)) (refused_before before (connective s.place before.depth (node_of 3) ∷ []) r k _))
 
-    pub negation_refused : (next : ℕ) → (begun.refusal.number ≡ 0 → ⊥) → ClauseLays text at (most_nesting - nesting) names before (record { laying = at_depth begun before.depth; next = next })
-    negation_refused next f = clause_laid before _ (by_cases (ℕ_discrete s.code 8)
-        (λ e. record {
-          laid = more_depth_back before begun _ (rw (told.negates e) (more_refused before begun (connective s.place before.depth (node_of 3) ∷ []) ((d.asked_for (eq-eqb s.code 8 e)).stopped f) _ f));
-          closed = λ z. absurd (f z);
-        })
-        (λ n. absurd (f (rw (d.as_before (ne_eqb s.code 8 n)) ready.number_none))))
+    module _ (begun : Laying) (ready : Layable before) (d : DeepenedIf (eqb (word_code s.head) 8) (connective s.place before.depth (node_of 3)) before begun) where
+      pub parts_ready : Layable begun
+      parts_ready = by_cases (ℕ_discrete (word_code s.head) 8)
+          (λ e. (d.asked_for (eq-eqb (word_code s.head) 8 e)).ready)
+          (λ n. rw (d.as_before (ne_eqb (word_code s.head) 8 n)) ready)
 
-    pub parts_clause : (r : Laid) → begun.refusal.number ≡ 0 → PartsLaid text s.next (most_nesting - (nesting - 1)) names (join_code s.code) s.place begun r
-        → ClauseLays text at (most_nesting - nesting) names before (record { laying = at_depth r.laying before.depth; next = r.next })
-    parts_clause r z p = clause_laid before _ (by_cases (ℕ_discrete s.code 8)
-        (λ e.
-        let n = d.asked_for (eq-eqb s.code 8 e) in
-        record {
-          laid = rw (told.negates e) (n.onward z _ r.laying (rw (← n.deeper z) p.laid));
-          closed = λ y. p.closed y;
-        })
-        (λ n.
-        let same = d.as_before (ne_eqb s.code 8 n) in
-        record {
-          laid = rw (told.joins n) (more_depth_back before r.laying _ (rw same at p.laid));
-          closed = λ y. p.closed y;
-        }))
+      pub parts_refused : (r : Refusal) → Refuses (joined_nodes begun.depth (join_code (word_code s.head)) s.place parts) begun r → ClauseLays text at (most_nesting - nesting) names before (Err r)
+      parts_refused r k = clause_refused before r (by_cases (ℕ_discrete (word_code s.head) 8)
+          (λ e. let n = d.asked_for (eq-eqb (word_code s.head) 8 e) in rw (told.negates e) (n.refused _ r (rw (← n.deeper) k)))
+          (λ n. rw (told.joins n) (rw (d.as_before (ne_eqb (word_code s.head) 8 n)) at k)))
+
+      pub parts_clause : (r : Laid) → PartsLaid text s.next (most_nesting - (nesting - 1)) names (join_code (word_code s.head)) s.place begun r
+          → ClauseLays text at (most_nesting - nesting) names before (Ok (record { laying = at_depth r.laying before.depth; next = r.next }))
+      parts_clause r p = clause_laid before _ (by_cases (ℕ_discrete (word_code s.head) 8)
+          (λ e. let n = d.asked_for (eq-eqb (word_code s.head) 8 e) in record { laid = rw (told.negates e) (n.onward _ r.laying (rw (← n.deeper) p.laid)); closed = p.closed })
+          (λ n. record { laid = rw (told.joins n) (more_depth_back before r.laying _ (rw (d.as_before (ne_eqb (word_code s.head) 8 n)) at p.laid)); closed = p.closed }))
 
 -- ---- the parts of a list
 
@@ -171,7 +209,7 @@ module _ {text : List ℕ} {at depth : ℕ} {names : List (List ℕ)} {code plac
   joins_here : JoinsOnward code place₀ (clauses_of names (forms_at text at)) l₀ place (part.first ∷ later) l
   joins_here = subst (λ (cs : List Clause). JoinsOnward code place₀ (clauses_of names (forms_at text at)) l₀ place cs l) part.clauses j.joins
 
-  module _ (p : PartEnd) (begun : Laying) (inside : 0 < depth) (low : 4 ≤ code) (high : code ≤ 5) (ends : PartEnds text next p) (d : DeepenedIf (not p.last) (connective place l.depth (node_of code)) l begun) where
+  module _ (p : PartEnd) (inside : 0 < depth) (low : 4 ≤ code) (high : code ≤ 5) (ends : PartEnds text next p) where
     ended : PartEnded text next depth p
     unfolding PartEnds
     ended = ends depth inside j.unbroken part_there
@@ -179,39 +217,41 @@ module _ {text : List ℕ} {at depth : ℕ} {names : List (List ℕ)} {code plac
     pub part_further : next < p.next
     part_further = ended.further
 
-    start : clause_start later ≡ cond p.last none (some p.place)
-    start = clause_start_lem names (rest_of (forms_at text next)) ∙ ended.start_is
+    start : clause_start later ≡ cond (is_last p.another) none (some (place_of p.another))
+    start = clause_start_lem names (rest_of (forms_at text next)) ∙ starts_as _ p.another ended.start_is
 
-    pub begun_ready : begun.refusal.number ≡ 0 → Layable begun
-    begun_ready = joins_ready code place₀ _ l₀ place part.first later l low high joins_here p.last p.place start begun d
+    pub join_stopped : is_some p.another ≡ true → (r : Refusal) → Refuses (connective place l.depth (node_of code) ∷ []) l r → PartsLaidOr text at depth names code place₀ l₀ (Err r)
+    join_stopped e r k = join_refused code place₀ _ l₀ place part.first later l low high joins_here (is_last p.another) (place_of p.another) start (another_not_last p.another e) r k
 
-    pub join_stopped : (at_last : ℕ) → (begun.refusal.number ≡ 0 → ⊥) → PartsLaid text at depth names code place₀ l₀ (record { laying = at_depth begun l₀.depth; next = at_last })
-    join_stopped at_last f = record { laid = join_refused code place₀ _ l₀ place part.first later l low high joins_here p.last p.place start begun d f; closed = λ z. absurd (f z) }
+    module _ (begun : Laying) (given : DeepenedIf (is_some p.another) (connective place l.depth (node_of code)) l begun) where
+      d : DeepenedIf (not (is_last p.another)) (connective place l.depth (node_of code)) l begun
+      d = rw (asked p.another) at given
 
-    module _ (z : begun.refusal.number ≡ 0) (r : Laid) (lays : ClauseLays text next depth names begun r) where
-      laid_part : ClauseLaid text next depth names part.first begun r
+      pub begun_ready : Layable begun
+      begun_ready = joins_ready code place₀ _ l₀ place part.first later l low high joins_here (is_last p.another) (place_of p.another) start begun d
+
+      pub part_stopped : (r : Refusal) → ClauseLays text next depth names begun (Err r) → PartsLaidOr text at depth names code place₀ l₀ (Err r)
       unfolding ClauseLays
-      laid_part = lays part.first later part.clauses
+      part_stopped r lays = part_refused code place₀ _ l₀ place part.first later l low high joins_here (is_last p.another) (place_of p.another) start begun d r (lays part.first later part.clauses)
 
-      pub last_laid : p.last ≡ true → PartsLaid text at depth names code place₀ l₀ (record { laying = at_depth r.laying l₀.depth; next = p.next })
-      last_laid e = record {
-        laid = last_joined code place₀ _ l₀ place part.first later l low high joins_here p.last p.place start begun d z r.laying laid_part.laid e;
-        closed = λ y. record { levels = (ended.closed e).levels ∙ j.levels; unbroken = (ended.closed e).unbroken };
-      }
+      module _ (r : Laid) (lays : ClauseLays text next depth names begun (Ok r)) where
+        laid_part : ClauseLaid text next depth names part.first begun r
+        unfolding ClauseLays
+        laid_part = lays part.first later part.clauses
 
-      pub part_stopped : (r.laying.refusal.number ≡ 0 → ⊥) → PartsLaid text at depth names code place₀ l₀ (record { laying = at_depth r.laying l₀.depth; next = p.next })
-      part_stopped f = record {
-        laid = part_refused code place₀ _ l₀ place part.first later l low high joins_here p.last p.place start begun d z r.laying laid_part.laid f;
-        closed = λ y. absurd (f y);
-      }
+        pub last_laid : p.another ≡ None → PartsLaid text at depth names code place₀ l₀ (record { laying = at_depth r.laying l₀.depth; next = p.next })
+        last_laid e = record {
+          laid = last_joined code place₀ _ l₀ place part.first later l low high joins_here (is_last p.another) (place_of p.another) start begun d r.laying laid_part.laid (rw e refl);
+          closed = record { levels = (ended.closed e).levels ∙ j.levels; unbroken = (ended.closed e).unbroken };
+        }
 
-      pub parts_onward : p.last ≡ false → r.laying.refusal.number ≡ 0 → PartsOnward text at depth names code place₀ l₀ r.next p.place r.laying
-      parts_onward e y =
-          let same : later ≡ clauses_of names (forms_at text r.next) = later_same (sym part.clauses ∙ laid_part.clauses y) in
-          record {
-            faultless = rw (← same) (later_parts names p.place (forms_at text next) part (rw e at ended.start_is));
-            levels = laid_part.levels y ∙ j.levels;
-            unbroken = laid_part.unbroken y;
-            joins = subst (λ (cs : List Clause). JoinsOnward code place₀ (clauses_of names (forms_at text at)) l₀ p.place cs r.laying) same
-                (joins_onward code place₀ _ l₀ place part.first later l low high joins_here p.last p.place start begun d z r.laying laid_part.laid e y);
-          }
+        pub parts_onward : (following : ℕ) → p.another ≡ Some following → PartsOnward text at depth names code place₀ l₀ r.next following r.laying
+        parts_onward following e =
+            let same : later ≡ clauses_of names (forms_at text r.next) = later_same (sym part.clauses ∙ laid_part.clauses) in
+            record {
+              faultless = rw (← same) (later_parts names following (forms_at text next) part (spot_some _ following (sym e ∙ ended.start_is)));
+              levels = laid_part.levels ∙ j.levels;
+              unbroken = laid_part.unbroken;
+              joins = subst (λ (cs : List Clause). JoinsOnward code place₀ (clauses_of names (forms_at text at)) l₀ following cs r.laying) same
+                  (rw e at (joins_onward code place₀ _ l₀ place part.first later l low high joins_here (is_last p.another) (place_of p.another) start begun d r.laying laid_part.laid (rw e refl)));
+            }

@@ -4,10 +4,10 @@ use native.Mathlib.Decide.{ℕ_discrete, dec_lt}
 use native.Mathlib.Omega.{arith}
 use mathlib.Core.Path.{◌≡◌, sym, ap, ◌∙◌}
 use mathlib.Core.Logic.{by_cases}
-use mathlib.Core.Bool.{false, true≢false}
 use mathlib.Core.List.{List, ◌∷◌}
-use borrow.Author.Tests.{eq-eqb, ne_eqb}
-use lib.Dec.{eqb}
+use Rattle.std.specs.Prelude.{Some, None}
+use Rattle.std.proofs.lemmas.Option.{none-some}
+use Rattle.lexicon.specs.Spots.{Position, spot_of}
 use Rattle.smtlib.specs.Forms.{Forms, word, list, outermost}
 use Rattle.smtlib.specs.Terms.{other_head, head_of}
 use Rattle.smtlib.specs.Formulas.{clauses_of}
@@ -15,7 +15,7 @@ use Rattle.forms.specs.declared.Form.{Form}
 use Rattle.forms.specs.Places.{forms_at, outer, around}
 use Rattle.forms.specs.Read.{END, CLOSE, OPEN, NUMERAL, OpenHere, FormRead, FormReads, FormStands, Rest, RestBehind}
 use Rattle.terms.specs.declared.ListHead.{ListHead}
-use Rattle.terms.specs.Heads.{head_code, head_in, HeadRead, HeadReads}
+use Rattle.terms.specs.Heads.{word_code, head_code, head_in, HeadRead, HeadReads}
 use Rattle.laying.specs.declared.lists.ListStart.{ListStart}
 use Rattle.laying.specs.declared.lists.PartEnd.{PartEnd}
 use Rattle.laying.specs.Texts.{FirstFaultless, clause_in, HeadedList, ListStarts, form_start, PartEnded, PartEnds}
@@ -35,13 +35,13 @@ module _ {text : List ℕ} {at depth : ℕ} {f : Form} (read : FormRead text at 
 
 module _ (text : List ℕ) (at : ℕ) (f : Form) (head : ListHead) (stands : FormStands text at f) (reads : FormReads text at f) (behind : f.next ≤ head.next) (heads : HeadReads text f.next head) where
   abbrev start : ListStart
-  start = record { place = f.place; code = head.code; next = head.next }
+  start = record { place = f.place; head = head.word; next = head.next }
 
   module _ (depth : ℕ) (names : List (List ℕ)) (faultless : FirstFaultless (clauses_of names (forms_at text at))) (o : OpenHere text at depth f.place f.next) (further : f.place < f.next) where
     list_headed_here : HeadRead text f.next (suc depth) head → HeadedList text at depth names start
     unfolding clauses_of
     list_headed_here h =
-        by_cases (dec_lt head.code (head_code other_head))
+        by_cases (dec_lt (word_code head.word) (head_code other_head))
         (λ l.
         let w = h.parts l in
         let forms : forms_at text at ≡ list f.place (word w.place w.head (forms_at text head.next)) (outermost (around text head.next)) =
@@ -74,38 +74,44 @@ module _ (text : List ℕ) (at : ℕ) (f : Form) (head : ListHead) (stands : For
 -- ---- what is behind a part
 
 module _ (text : List ℕ) (at after : ℕ) (part form : Form) (stands : FormStands text at part) (reads : FormReads text at part) (beyond : part.next ≤ after) (behind : RestBehind text part after) (later_stands : FormStands text after form) (later : FormReads text after form) where
-  abbrev ending : PartEnd
-  ending = record { last = eqb form.kind CLOSE; place = form.place; next = form.next }
+  abbrev ending : Position → PartEnd
+  ending another = record { another = another; next = form.next }
 
   module _ (depth : ℕ) (inside : 0 < depth) (rest : Rest text at depth after) (opened : OPEN ≤ part.kind) where
     goes_further : (form.kind ≡ END → ⊥) → at < form.next
     goes_further n = omega (arith, stands.not_before, stands.goes_on (λ z. omega (arith, z, opened)), beyond, later_stands.not_before, later_stands.goes_on n)
 
-    ended_by : FormRead text after depth form → PartEnded text at depth ending
-    ended_by read =
-        by_kind read
-        (λ e. absurd (omega (arith, inside, (read.end e).none_open)))
-        (λ e.
+    ended_here : FormRead text after depth form → form.kind ≡ CLOSE → PartEnded text at depth (ending None)
+    ended_here read e =
         let c = read.close e in
         record {
-          start_is = rw (eq-eqb form.kind CLOSE e) (ap form_start (sym rest.forms ∙ c.forms));
+          start_is = ap (λ (f : Forms). spot_of (form_start f)) (sym c.forms ∙ rest.forms);
           closed = λ t. record { levels = c.closed.levels ∙ rest.levels; unbroken = c.closed.unbroken };
           further = goes_further (λ z. omega (arith, z, e));
-        })
-        (λ e.
-        let n : eqb form.kind CLOSE ≡ false = ne_eqb form.kind CLOSE (λ z. omega (arith, z, e)) in
-        record { start_is = rw n (ap form_start (sym rest.forms ∙ (read.open_list e).forms)); closed = λ t. absurd (true≢false (sym t ∙ n)); further = goes_further (λ z. omega (arith, z, e)) })
-        (λ l.
-        let n : eqb form.kind CLOSE ≡ false = ne_eqb form.kind CLOSE (λ z. omega (arith, z, l)) in
-        record { start_is = rw n (ap form_start (sym rest.forms ∙ (read.word_here l).forms)); closed = λ t. absurd (true≢false (sym t ∙ n)); further = goes_further (λ z. omega (arith, z, l)) })
+        }
 
-  pub part_ends : PartEnds text at ending
-  unfolding PartEnds FormReads RestBehind
-  part_ends depth inside u there =
-      let read : FormRead text at depth part = reads depth u in
-      let go : OPEN ≤ part.kind → PartEnded text at depth ending = λ l. let rest = behind at depth u read l in ended_by depth inside rest l (later depth rest.unbroken) in
-      by_kind read
-      (λ e. absurd (there (read.end e).forms))
-      (λ e. absurd (there (read.close e).forms))
-      (λ e. go (omega (arith, e)))
-      (λ l. go (omega (arith, l)))
+    another_here : FormRead text after depth form → (form.kind ≡ CLOSE → ⊥) → PartEnded text at depth (ending (Some form.place))
+    another_here read n =
+        by_kind read
+        (λ e. absurd (omega (arith, inside, (read.end e).none_open)))
+        (λ e. absurd (n e))
+        (λ e. record { start_is = ap (λ (f : Forms). spot_of (form_start f)) (sym (read.open_list e).forms ∙ rest.forms); closed = λ t. absurd (none-some form.place (sym t)); further = goes_further (λ z. omega (arith, z, e)) })
+        (λ l. record { start_is = ap (λ (f : Forms). spot_of (form_start f)) (sym (read.word_here l).forms ∙ rest.forms); closed = λ t. absurd (none-some form.place (sym t)); further = goes_further (λ z. omega (arith, z, l)) })
+
+  module _ {another : Position} (by : (depth : ℕ) → 0 < depth → Rest text at depth after → OPEN ≤ part.kind → FormRead text after depth form → PartEnded text at depth (ending another)) where
+    by_part : PartEnds text at (ending another)
+    unfolding PartEnds FormReads RestBehind
+    by_part depth inside u there =
+        let read : FormRead text at depth part = reads depth u in
+        let go : OPEN ≤ part.kind → PartEnded text at depth (ending another) = λ l. let rest = behind at depth u read l in by depth inside rest l (later depth rest.unbroken) in
+        by_kind read
+        (λ e. absurd (there (read.end e).forms))
+        (λ e. absurd (there (read.close e).forms))
+        (λ e. go (omega (arith, e)))
+        (λ l. go (omega (arith, l)))
+
+  pub last_ends : form.kind ≡ CLOSE → PartEnds text at (ending None)
+  last_ends e = by_part (λ depth inside rest l read. ended_here depth inside rest l read e)
+
+  pub another_ends : (form.kind ≡ CLOSE → ⊥) → PartEnds text at (ending (Some form.place))
+  another_ends n = by_part (λ depth inside rest l read. another_here depth inside rest l read n)

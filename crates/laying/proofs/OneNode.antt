@@ -1,7 +1,7 @@
 -- One node by its checks: refused at the first that fails, or laid. Assumes nothing.
-use mathlib.Core.Path.{◌≡◌, refl, subst}
+use mathlib.Core.Path.{◌≡◌, refl, subst, sym, ◌∙◌}
 use mathlib.Core.Logic.{by_cases}
-use mathlib.Core.Bool.{Bool, true, false, not, ◌&&◌, ◌||◌, and-eq-true_iff}
+use mathlib.Core.Bool.{Bool, true, false, not, ◌&&◌, ◌||◌, and-eq-true_iff, true≢false}
 use mathlib.Core.List.{List, [], ◌∷◌}
 use Prim.Native.Nat.{ℕ, ◌+◌, ◌≤◌, ◌<◌}
 use native.Mathlib.Decide.{ℕ_discrete}
@@ -10,18 +10,21 @@ use borrow.Author.Tests.{ltb-true, leb-true}
 use lib.Dec.{leb, ltb}
 use lib.IntN.{ℤ, neg_ℤ, pos}
 use lib.ListN.{get_or, drop}
-use Rattle.scope.specs.Whole.{all}
+use Rattle.std.proofs.Common.{Result, Ok, Err}
+use Rattle.scope.specs.declared.Rule.{Rule}
+use Rattle.scope.specs.declared.Refusal.{Refusal}
+use Rattle.std.specs.List.{list_all}
 use Rattle.scope.specs.Sizes.{most_nodes, most_atoms, most_depth, coefficient_fits, constant_fits}
 use Rattle.scope.specs.Question.{node_of, code_of, is_atom}
-use Rattle.scope.specs.Refusals.{TOO_MANY, COEFFICIENT_BEYOND, CONSTANT_BEYOND, first_refusal}
+use Rattle.scope.specs.Refusals.{refusal, first_refusal}
 use Rattle.scope.specs.Wire.{noted}
 use Rattle.smtlib.specs.Formulas.{lowered}
 use Rattle.smtlib.specs.Imported.{PlacedNode, connective}
 use Rattle.laying.specs.declared.Laying.{Laying}
-use Rattle.laying.specs.Laid.{node_room, Layable, LaysMore}
-use Rattle.laying.specs.Noted.{refused_laying, at_depth, with_code, with_numbers, relation_of, comparison_code, comparison_laid}
-use Rattle.laying.specs.Deeper.{Deepened}
-use Rattle.laying.specs.More.{one_refused, one_more, more_onward, more_at_depth}
+use Rattle.laying.specs.Laid.{node_room, Layable, LaysMore, Refuses}
+use Rattle.laying.specs.Noted.{at_depth, with_code, with_numbers, relation_of, comparison_code, comparison_laid}
+use Rattle.laying.specs.Deeper.{Deepened, DeepenedOr, DeepenedIfOr}
+use Rattle.laying.specs.More.{one_refused, one_more, more_onward, more_at_depth, refused_behind, refused_at_depth}
 
 -- ---- what room says
 
@@ -47,54 +50,53 @@ connective_code code h k = by_cases (ℕ_discrete code 3) (λ e. rw e (record { 
     (λ f. by_cases (ℕ_discrete code 4) (λ e. rw e (record { no_atom = refl; same_code = refl }))
     (λ g. let e : code ≡ 5 = omega arith in rw e (record { no_atom = refl; same_code = refl })))
 
-module _ (a : Laying) (ready : Layable a) (code place : ℕ) (h : 3 ≤ code) (k : code ≤ 5) where
-  pub connective_refused : node_room false a.nodes a.atoms a.depth ≡ false → LaysMore (connective place a.depth (node_of code) ∷ []) a (refused_laying a TOO_MANY place)
+module _ (a : Laying) (code place : ℕ) (h : 3 ≤ code) (k : code ≤ 5) where
+  pub connective_refused : node_room false a.nodes a.atoms a.depth ≡ false → Refuses (connective place a.depth (node_of code) ∷ []) a (refusal Rule.TooMany place)
   unfolding first_refusal
-  connective_refused e = one_refused a _ (connective place a.depth (node_of code)) ready.number_none _ (rw ((connective_code code h k).no_atom, e) refl) refl refl refl
+  connective_refused e = one_refused a (connective place a.depth (node_of code)) _ (rw ((connective_code code h k).no_atom, e) refl)
 
-  pub connective_laid : node_room false a.nodes a.atoms a.depth ≡ true → LaysMore (connective place a.depth (node_of code) ∷ []) a (with_code a code)
-  unfolding first_refusal noted all
-  connective_laid room =
+  pub connective_laid : Layable a → node_room false a.nodes a.atoms a.depth ≡ true → LaysMore (connective place a.depth (node_of code) ∷ []) a (with_code a code)
+  unfolding first_refusal noted
+  connective_laid ready room =
       let known = connective_code code h k in
-      one_more a (with_code a code) (connective place a.depth (node_of code)) ready.number_none ready.few (rw (known.no_atom, room) refl)
-      (record { question = rw (known.no_atom, known.same_code) refl; nodes = refl; atoms = rw known.no_atom (omega arith); refusal = refl; depth = refl })
+      one_more a (connective place a.depth (node_of code)) (with_code a code) ready.few (rw (known.no_atom, room) refl)
+      (record { question = rw (known.no_atom, known.same_code) refl; nodes = refl; atoms = rw known.no_atom (omega arith); depth = refl })
 
--- and then one level deeper, unless it was refused
+-- and then one level deeper
+pub one_deeper : (a b : Laying) (x : PlacedNode) → Layable a → LaysMore (x ∷ []) a b → Deepened x a (at_depth b (a.depth + 1))
+one_deeper a b x ready m = record {
+  ready = record { few = omega (arith, m.n_kept, ready.few) };
+  deeper = omega arith;
+  onward = λ xs later k. subst (λ (d : ℕ). LaysMore (x ∷ xs) a (at_depth later d)) m.depth_kept (more_onward a b (x ∷ []) m (at_depth later b.depth) xs (more_at_depth b later (a.depth + 1) xs k));
+  refused = λ xs r k. refused_behind a b (x ∷ []) m xs r (refused_at_depth b (a.depth + 1) xs r k);
+}
 
-module _ (a b : Laying) (x : PlacedNode) (ready : Layable a) (m : LaysMore (x ∷ []) a b) where
-  pub stopped_there : (b.refusal.number ≡ 0 → ⊥) → Deepened x a b
-  stopped_there f = record { stopped = λ g. m; ready = λ e. absurd (f e); deeper = λ e. absurd (f e); onward = λ e. absurd (f e) }
-
-  pub one_deeper : b.refusal.number ≡ 0 → Deepened x a (at_depth b (a.depth + 1))
-  one_deeper e = record {
-    stopped = λ f. absurd (f e);
-    ready = λ e. record { few = omega (arith, m.n_kept, ready.few); number_none = e };
-    deeper = λ e. omega arith;
-    onward = λ e xs later k. subst (λ (d : ℕ). LaysMore (x ∷ xs) a (at_depth later d)) m.depth_kept (more_onward a b (x ∷ []) m (at_depth later b.depth) xs (more_at_depth b later (a.depth + 1) xs k));
-  }
+pub asked_deeper : (asked : Bool) (x : PlacedNode) (before : Laying) (r : Result Laying Refusal) → asked ≡ true → DeepenedOr x before r → DeepenedIfOr asked x before r
+asked_deeper asked x before (Ok after) e d = record { asked_for = λ f. d; as_before = λ f. absurd (true≢false (sym e ∙ f)) }
+asked_deeper asked x before (Err r) e d = (e, d)
 
 -- ---- comparisons
 
-module _ (a : Laying) (ready : Layable a) (head place : ℕ) (numbers : List ℤ) where
+module _ (a : Laying) (head place : ℕ) (numbers : List ℤ) where
   abbrev atom : PlacedNode
   atom = comparison_laid a.depth head place numbers
 
-  pub no_room_lem : node_room true a.nodes a.atoms a.depth ≡ false → LaysMore (atom ∷ []) a (refused_laying a TOO_MANY place)
+  pub no_room_lem : node_room true a.nodes a.atoms a.depth ≡ false → Refuses (atom ∷ []) a (refusal Rule.TooMany place)
   unfolding first_refusal
-  no_room_lem e = one_refused a _ atom ready.number_none _ (rw e refl) refl refl refl
+  no_room_lem e = one_refused a atom _ (rw e refl)
 
   module _ (room : node_room true a.nodes a.atoms a.depth ≡ true) where
-    pub coefficient_beyond : all coefficient_fits (drop 1 numbers) ≡ false → LaysMore (atom ∷ []) a (refused_laying a COEFFICIENT_BEYOND place)
+    pub coefficient_beyond : list_all coefficient_fits (drop 1 numbers) ≡ false → Refuses (atom ∷ []) a (refusal Rule.CoefficientBeyond place)
     unfolding first_refusal
-    coefficient_beyond e = one_refused a _ atom ready.number_none _ (rw (room, e) refl) refl refl refl
+    coefficient_beyond e = one_refused a atom _ (rw (room, e) refl)
 
-    module _ (few : all coefficient_fits (drop 1 numbers) ≡ true) (k : ℤ) (is : k ≡ lowered (relation_of head) (neg_ℤ (get_or numbers 0 (pos 0)))) where
-      pub constant_beyond : constant_fits k ≡ false → LaysMore (atom ∷ []) a (refused_laying a CONSTANT_BEYOND place)
+    module _ (few : list_all coefficient_fits (drop 1 numbers) ≡ true) (k : ℤ) (is : k ≡ lowered (relation_of head) (neg_ℤ (get_or numbers 0 (pos 0)))) where
+      pub constant_beyond : constant_fits k ≡ false → Refuses (atom ∷ []) a (refusal Rule.ConstantBeyond place)
       unfolding first_refusal
-      constant_beyond f = one_refused a _ atom ready.number_none _ (rw (room, few, rw is at f) refl) refl refl refl
+      constant_beyond f = one_refused a atom _ (rw (room, few, rw is at f) refl)
 
-      pub comparison_laid_lem : constant_fits k ≡ true → LaysMore (atom ∷ []) a (with_code (with_numbers a (drop 1 numbers) k) (comparison_code head))
+      pub comparison_laid_lem : Layable a → constant_fits k ≡ true → LaysMore (atom ∷ []) a (with_code (with_numbers a (drop 1 numbers) k) (comparison_code head))
       unfolding first_refusal noted
-      comparison_laid_lem f =
-          one_more a _ atom ready.number_none ready.few (rw (room, few, rw is at f) refl)
-          (record { question = rw is refl; nodes = refl; atoms = refl; refusal = refl; depth = refl })
+      comparison_laid_lem ready f =
+          one_more a atom _ ready.few (rw (room, few, rw is at f) refl)
+          (record { question = rw is refl; nodes = refl; atoms = refl; depth = refl })

@@ -1,13 +1,13 @@
 -- Nodes behind others: their atoms, their checks, and what is refused first among them.
-use Rattle.std.specs.Prelude.{ℕ, suc, ◌+◌, ◌≤◌, ◌≡◌, refl, cond, List, [], ◌∷◌, ◌++◌, length}
+use Rattle.std.specs.Prelude.{ℕ, suc, ◌+◌, ◌≡◌, refl, cond, List, [], ◌∷◌, ◌++◌, length}
 use Rattle.std.proofs.Common.{arith, sym, ap, ◌∙◌, append_assoc, length-append}
-use Rattle.std.proofs.Math.Option.{Option, none, some}
+use Rattle.std.proofs.Math.Option.{some}
 use Rattle.scope.specs.declared.Refusal.{Refusal}
 use Rattle.scope.specs.Question.{Node, unused, atom, not, and, or, is_atom, Atom}
 use Rattle.scope.specs.Refusals.{Check, first_refusal}
-use Rattle.theory.specs.Wire.Checks.{FirstFailing, some_iff_failing, EveryNumber, failing_numbered}
+use Rattle.theory.specs.Wire.Checks.{FirstFailing, some_iff_failing}
 use Rattle.smtlib.specs.Imported.{PlacedNode, placed_checks}
-use Rattle.laying.specs.Laid.{atom_laid, atoms_laid, placed_here, refusal_or}
+use Rattle.laying.specs.Laid.{atom_laid, atoms_laid, placed_here}
 
 -- ---- atoms
 
@@ -56,23 +56,3 @@ append_failing cs ds r f = record {
 -- a refusal stays as it is
 pub refusal_stays : (cs ds : List Check) (r : Refusal) → first_refusal cs ≡ some r → first_refusal (cs ++ ds) ≡ some r
 refusal_stays cs ds r e = (some_iff_failing (cs ++ ds) r).1 (append_failing cs ds r ((some_iff_failing cs r).0 e))
-
-checks_numbered : (nodes atoms : ℕ) (xs : List PlacedNode) → EveryNumber (λ k. 5 ≤ k) (placed_checks nodes atoms xs)
-unfolding placed_checks
-checks_numbered nodes atoms [] = tt
-checks_numbered nodes atoms (x ∷ xs) = (omega arith, (omega arith, (omega arith, checks_numbered (suc nodes) (atoms + cond (is_atom x.node) 1 0) xs)))
-
--- number 0 is none of the refusals
-pub unrefused : (nodes atoms : ℕ) (xs : List PlacedNode) → (refusal_or (first_refusal (placed_checks nodes atoms xs))).number ≡ 0 → first_refusal (placed_checks nodes atoms xs) ≡ none
-unrefused nodes atoms xs = go (first_refusal (placed_checks nodes atoms xs)) refl
-  where
-    go : (o : Option Refusal) → first_refusal (placed_checks nodes atoms xs) ≡ o → (refusal_or o).number ≡ 0 → o ≡ none
-    go none e z = refl
-    go (some r) e z = absurd (omega (arith, z, failing_numbered (λ k. 5 ≤ k) (placed_checks nodes atoms xs) r (checks_numbered nodes atoms xs) ((some_iff_failing (placed_checks nodes atoms xs) r).0 e)))
-
-pub refused_some : (cs : List Check) → ((refusal_or (first_refusal cs)).number ≡ 0 → ⊥) → first_refusal cs ≡ some (refusal_or (first_refusal cs))
-refused_some cs f = go (first_refusal cs) f
-  where
-    go : (o : Option Refusal) → ((refusal_or o).number ≡ 0 → ⊥) → o ≡ some (refusal_or o)
-    go none f = absurd (f refl)
-    go (some r) f = refl

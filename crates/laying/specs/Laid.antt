@@ -1,13 +1,14 @@
--- A question as far as its nodes are laid, or the first refusal among them.
-use Rattle.std.specs.Prelude.{ℕ, ◌≤◌, ◌≡◌, Bool, not, ◌&&◌, ◌||◌, List, [], ◌∷◌, ◌++◌, map, length, take, leb, ltb}
-use Rattle.std.proofs.Math.Option.{Option, none, some}
+-- A question as far as its nodes are laid, and the first refusal among them.
+use Rattle.std.specs.Prelude.{ℕ, ◌≤◌, ◌≡◌, Bool, not, ◌&&◌, ◌||◌, List, [], ◌∷◌, ◌++◌, map, length, take, leb, ltb, Result, Ok, Err}
+use Rattle.std.proofs.Math.Option.{none, some}
+use Rattle.scope.specs.declared.Rule.{Rule}
 use Rattle.scope.specs.declared.Question.{Question}
 use Rattle.scope.specs.declared.Refusal.{Refusal}
-use Rattle.scope.specs.Whole.{all}
+use Rattle.std.specs.List.{list_all}
 use Rattle.scope.specs.Sizes.{most_variables, most_atoms, most_nodes, most_depth, coefficient_fits, constant_fits}
 use Rattle.scope.specs.Question.{Node, unused, atom, is_atom, Atom}
 use Rattle.scope.specs.Tree.{held_by}
-use Rattle.scope.specs.Refusals.{Check, check, refusal, first_refusal, TOO_MANY, COEFFICIENT_BEYOND, CONSTANT_BEYOND}
+use Rattle.scope.specs.Refusals.{Check, check, first_refusal}
 use Rattle.smtlib.specs.Imported.{PlacedNode, placed_checks}
 use Rattle.laying.specs.declared.Laying.{Laying}
 
@@ -34,17 +35,12 @@ node_room isAn nodes atoms depth = ltb nodes most_nodes && ((not isAn || ltb ato
 -- the checks of one node
 abbrev pub placed_here : ℕ → ℕ → PlacedNode → List Check
 placed_here nodes atoms x =
-    check TOO_MANY x.place (node_room (is_atom x.node) nodes atoms x.depth) ∷
-    check COEFFICIENT_BEYOND x.place (all coefficient_fits x.coefficients) ∷
-    check CONSTANT_BEYOND x.place (constant_fits x.constant) ∷
+    check Rule.TooMany x.place (node_room (is_atom x.node) nodes atoms x.depth) ∷
+    check Rule.CoefficientBeyond x.place (list_all coefficient_fits x.coefficients) ∷
+    check Rule.ConstantBeyond x.place (constant_fits x.constant) ∷
     []
 
 -- ---- what is laid
-
--- number 0 is no refusal
-abbrev pub refusal_or : Option Refusal → Refusal
-refusal_or none = refusal 0 0
-refusal_or (some r) = r
 
 -- what is laid, as a held question
 abbrev pub laid_question : Laying → Question
@@ -55,17 +51,24 @@ pub record HeldIn (xs : List PlacedNode) (l : Laying) : Type 0 where
   pub nodes_are : l.nodes ≡ length xs
   pub atoms_are : l.atoms ≡ length (atoms_laid l.n xs)
 
+-- none of them is refused
 pub record Lays (xs : List PlacedNode) (l : Laying) : Type 0 where
-  pub refusal_is : l.refusal ≡ refusal_or (first_refusal (placed_checks 0 0 xs))
-  pub held_in : first_refusal (placed_checks 0 0 xs) ≡ none → HeldIn xs l
+  pub none_refused : first_refusal (placed_checks 0 0 xs) ≡ none
+  pub held_in : HeldIn xs l
 
--- nothing is refused so far
 pub record Layable (l : Laying) : Type 0 where
   pub few : l.n ≤ most_variables
-  pub number_none : l.refusal.number ≡ 0
 
 -- more nodes are laid than before: n and the depth are as they were
 pub record LaysMore (xs : List PlacedNode) (before after : Laying) : Type 0 where
   pub n_kept : after.n ≡ before.n
   pub depth_kept : after.depth ≡ before.depth
   pub laid_more : (ys : List PlacedNode) → Lays ys before → Lays (ys ++ xs) after
+
+-- more nodes are refused behind those laid
+pub record Refuses (xs : List PlacedNode) (before : Laying) (r : Refusal) : Type 0 where
+  pub refused_first : (ys : List PlacedNode) → Lays ys before → first_refusal (placed_checks 0 0 (ys ++ xs)) ≡ some r
+
+abbrev pub LaysOr : List PlacedNode → Laying → Result Laying Refusal → Type 0
+LaysOr xs before (Ok after) = LaysMore xs before after
+LaysOr xs before (Err r) = Refuses xs before r

@@ -17,9 +17,9 @@ use Rattle.theory.specs.Trees.Limits.{leaf_of, Narrow, held_more}
 use Rattle.theory.specs.Numbers.Joined.{each_append}
 use Rattle.smtlib.specs.Imported.{PlacedNode, placed_checks}
 use Rattle.laying.specs.declared.Laying.{Laying}
-use Rattle.laying.specs.Laid.{nodes_laid, atom_laid, atoms_laid, placed_here, laid_question, refusal_or, HeldIn, Lays, LaysMore}
+use Rattle.laying.specs.Laid.{nodes_laid, atom_laid, atoms_laid, placed_here, laid_question, HeldIn, Lays, LaysMore, Refuses}
 use Rattle.laying.specs.Noted.{at_depth}
-use Rattle.laying.specs.Appended.{leaf_counts, atoms_append, checks_append, refusal_stays, unrefused, refused_some}
+use Rattle.laying.specs.Appended.{leaf_counts, atoms_append, checks_append, refusal_stays}
 
 -- ---- one after the other
 
@@ -31,27 +31,24 @@ module _ (a b : Laying) (xs : List PlacedNode) (m : LaysMore xs a b) where
     laid_more = λ zs h. subst (λ (l : List PlacedNode). Lays l c) (append_assoc zs xs ys) (k.laid_more (zs ++ xs) (m.laid_more zs h));
   }
 
-  -- where a node was refused, what would follow does not count
-  pub more_refused : (ys : List PlacedNode) → (b.refusal.number ≡ 0 → ⊥) → LaysMore (xs ++ ys) a b
-  more_refused ys f = record { n_kept = m.n_kept; depth_kept = m.depth_kept; laid_more = still }
-    where
-      stays : (zs : List PlacedNode) → Lays (zs ++ xs) b → first_refusal (placed_checks 0 0 ((zs ++ xs) ++ ys)) ≡ some b.refusal
-      stays zs h =
-          let cs : List Check = placed_checks 0 0 (zs ++ xs) in
-          let ds : List Check = placed_checks (0 + length (zs ++ xs)) (0 + length (atoms_laid 0 (zs ++ xs))) ys in
-          let told : first_refusal cs ≡ some b.refusal = refused_some cs (λ e. f (ap (λ (r : Refusal). r.number) h.refusal_is ∙ e)) ∙ ap some (sym h.refusal_is) in
-          ap first_refusal (checks_append 0 0 0 (zs ++ xs) ys) ∙ refusal_stays cs ds b.refusal told
+  pub refused_behind : (ys : List PlacedNode) (r : Refusal) → Refuses ys b r → Refuses (xs ++ ys) a r
+  refused_behind ys r k = record { refused_first = λ zs h. ap (λ (l : List PlacedNode). first_refusal (placed_checks 0 0 l)) (sym (append_assoc zs xs ys)) ∙ k.refused_first (zs ++ xs) (m.laid_more zs h) }
 
-      still : (zs : List PlacedNode) → Lays zs a → Lays (zs ++ (xs ++ ys)) b
-      still zs h =
-          let e : first_refusal (placed_checks 0 0 ((zs ++ xs) ++ ys)) ≡ some b.refusal = stays zs (m.laid_more zs h) in
-          subst (λ (l : List PlacedNode). Lays l b) (append_assoc zs xs ys)
-          (record { refusal_is = rw e refl; held_in = λ z. absurd (let n : ◌≡◌ {A = ℕ} 0 1 = cc in omega arith) })
+-- where a node was refused, what would follow does not count
+pub refused_before : (a : Laying) (xs : List PlacedNode) (r : Refusal) → Refuses xs a r → (ys : List PlacedNode) → Refuses (xs ++ ys) a r
+refused_before a xs r k ys = record { refused_first = still }
+  where
+    still : (zs : List PlacedNode) → Lays zs a → first_refusal (placed_checks 0 0 (zs ++ (xs ++ ys))) ≡ some r
+    still zs h =
+        let cs : List Check = placed_checks 0 0 (zs ++ xs) in
+        let ds : List Check = placed_checks (0 + length (zs ++ xs)) (0 + length (atoms_laid 0 (zs ++ xs))) ys in
+        ap (λ (l : List PlacedNode). first_refusal (placed_checks 0 0 l)) (sym (append_assoc zs xs ys))
+        ∙ ap first_refusal (checks_append 0 0 0 (zs ++ xs) ys) ∙ refusal_stays cs ds r (k.refused_first zs h)
 
 -- ---- the depth
 
 at_depth_lem : (xs : List PlacedNode) (l : Laying) (depth : ℕ) → Lays xs l → Lays xs (at_depth l depth)
-at_depth_lem xs l depth h = record { refusal_is = h.refusal_is; held_in = λ e. let k = h.held_in e in record { question_is = k.question_is; nodes_are = k.nodes_are; atoms_are = k.atoms_are } }
+at_depth_lem xs l depth h = let k = h.held_in in record { none_refused = h.none_refused; held_in = record { question_is = k.question_is; nodes_are = k.nodes_are; atoms_are = k.atoms_are } }
 
 -- nodes laid at another depth, and then the depth put back
 pub more_at_depth : (a b : Laying) (depth : ℕ) (xs : List PlacedNode) → LaysMore xs (at_depth a depth) b → LaysMore xs a (at_depth b a.depth)
@@ -59,6 +56,9 @@ more_at_depth a b depth xs m = record { n_kept = m.n_kept; depth_kept = refl; la
 
 pub more_depth_back : (a b : Laying) (xs : List PlacedNode) → LaysMore xs a b → LaysMore xs a (at_depth b a.depth)
 more_depth_back a b xs m = record { n_kept = m.n_kept; depth_kept = refl; laid_more = λ zs h. at_depth_lem (zs ++ xs) b a.depth (m.laid_more zs h) }
+
+pub refused_at_depth : (a : Laying) (depth : ℕ) (xs : List PlacedNode) (r : Refusal) → Refuses xs (at_depth a depth) r → Refuses xs a r
+refused_at_depth a depth xs r k = record { refused_first = λ zs h. k.refused_first zs (at_depth_lem zs a depth h) }
 
 -- ---- one node
 
@@ -101,43 +101,27 @@ pub record LaidOne (x : PlacedNode) (before after : Laying) : Type 0 where
   pub question : laid_question after ≡ noted (is_atom x.node) x.node (take before.n x.coefficients) x.constant (laid_counts before) (laid_question before)
   pub nodes : after.nodes ≡ before.nodes + 1
   pub atoms : after.atoms ≡ before.atoms + cond (is_atom x.node) 1 0
-  pub refusal : after.refusal ≡ before.refusal
   pub depth : after.depth ≡ before.depth
 
-module _ (a b : Laying) (x : PlacedNode) (z : a.refusal.number ≡ 0) where
-  none_before : (zs : List PlacedNode) → Lays zs a → first_refusal (placed_checks 0 0 zs) ≡ none
-  none_before zs h = unrefused 0 0 zs (ap (λ (r : Refusal). r.number) (sym h.refusal_is) ∙ z)
-
+module _ (a : Laying) (x : PlacedNode) where
   one_checked : (zs : List PlacedNode) → Lays zs a → first_refusal (placed_checks 0 0 (zs ++ (x ∷ []))) ≡ first_refusal (placed_here a.nodes a.atoms x)
   unfolding placed_checks
   one_checked zs h =
-      let e : first_refusal (placed_checks 0 0 zs) ≡ none = none_before zs h in
-      let held : HeldIn zs a = h.held_in e in
+      let held : HeldIn zs a = h.held_in in
       let k : 0 + length zs ≡ a.nodes = omega (arith, held.nodes_are) in
       let m : 0 + length (atoms_laid a.n zs) ≡ a.atoms = omega (arith, held.atoms_are) in
       ap first_refusal (checks_append a.n 0 0 zs (x ∷ []))
-      ∙ passed_append (placed_checks 0 0 zs) (placed_here (0 + length zs) (0 + length (atoms_laid a.n zs)) x) (none_passed (placed_checks 0 0 zs) e)
+      ∙ passed_append (placed_checks 0 0 zs) (placed_here (0 + length zs) (0 + length (atoms_laid a.n zs)) x) (none_passed (placed_checks 0 0 zs) h.none_refused)
       ∙ (λ i. first_refusal (placed_here (k i) (m i) x))
 
-  pub one_refused : (r : Refusal) → first_refusal (placed_here a.nodes a.atoms x) ≡ some r → b.n ≡ a.n → b.depth ≡ a.depth → b.refusal ≡ r → LaysMore (x ∷ []) a b
-  one_refused r e n d f = record {
-    n_kept = n;
-    depth_kept = d;
-    laid_more = λ zs h.
-        let g : first_refusal (placed_checks 0 0 (zs ++ (x ∷ []))) ≡ some r = one_checked zs h ∙ e in
-        record { refusal_is = f ∙ rw g refl; held_in = λ y. absurd (let q : ◌≡◌ {A = ℕ} 0 1 = cc in omega arith) };
-  }
+  pub one_refused : (r : Refusal) → first_refusal (placed_here a.nodes a.atoms x) ≡ some r → Refuses (x ∷ []) a r
+  one_refused r e = record { refused_first = λ zs h. one_checked zs h ∙ e }
 
-  pub one_more : a.n ≤ most_variables → first_refusal (placed_here a.nodes a.atoms x) ≡ none → LaidOne x a b → LaysMore (x ∷ []) a b
-  one_more six e o = record {
+  pub one_more : (b : Laying) → a.n ≤ most_variables → first_refusal (placed_here a.nodes a.atoms x) ≡ none → LaidOne x a b → LaysMore (x ∷ []) a b
+  one_more b six e o = record {
     n_kept = n_same;
     depth_kept = o.depth;
-    laid_more = λ zs h.
-        let g : first_refusal (placed_checks 0 0 (zs ++ (x ∷ []))) ≡ none = one_checked zs h ∙ e in
-        record {
-          refusal_is = o.refusal ∙ h.refusal_is ∙ ap refusal_or (none_before zs h ∙ sym g);
-          held_in = λ y. held zs (h.held_in (none_before zs h));
-        };
+    laid_more = λ zs h. record { none_refused = one_checked zs h ∙ e; held_in = held zs h.held_in };
   }
     where
       n_same : b.n ≡ a.n

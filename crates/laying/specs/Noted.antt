@@ -1,9 +1,8 @@
--- A node noted in what is laid: its code, an atom's numbers, or its refusal.
+-- A node noted in what is laid: its code, and an atom's numbers.
 use Rattle.std.specs.Prelude.{ℕ, ◌+◌, ◌*◌, cond, List, get_or, set, take, drop, eqb, ℤ, pos, neg_ℤ}
 use Rattle.std.proofs.lemmas.List.Edits.{sets}
 use Rattle.scope.specs.Sizes.{most_variables}
 use Rattle.scope.specs.Question.{Node, code_of, empty_question}
-use Rattle.scope.specs.Refusals.{refusal}
 use Rattle.smtlib.specs.Terms.{Relation, equal, at_most, below, at_least, above}
 use Rattle.smtlib.specs.Formulas.{kind_for, lowered}
 use Rattle.smtlib.specs.Imported.{PlacedNode}
@@ -19,19 +18,6 @@ empty_laying n = record {
   codes = empty_question.codes;
   coefficients = empty_question.coefficients;
   constants = empty_question.constants;
-  refusal = refusal 0 0;
-}
-
-abbrev pub refused_laying : Laying → ℕ → ℕ → Laying
-refused_laying l number place = record {
-  n = l.n;
-  nodes = l.nodes;
-  atoms = l.atoms;
-  depth = l.depth;
-  codes = l.codes;
-  coefficients = l.coefficients;
-  constants = l.constants;
-  refusal = refusal number place;
 }
 
 abbrev pub with_code : Laying → ℕ → Laying
@@ -43,7 +29,6 @@ with_code l code = record {
   codes = set l.codes l.nodes code;
   coefficients = l.coefficients;
   constants = l.constants;
-  refusal = l.refusal;
 }
 
 -- the next node stands at this depth
@@ -56,7 +41,6 @@ at_depth l depth = record {
   codes = l.codes;
   coefficients = l.coefficients;
   constants = l.constants;
-  refusal = l.refusal;
 }
 
 -- an atom's first n coefficients, and its constant
@@ -69,7 +53,6 @@ with_numbers l coefficients constant = record {
   codes = l.codes;
   coefficients = sets l.coefficients (most_variables * l.atoms) (take l.n coefficients);
   constants = set l.constants l.atoms constant;
-  refusal = l.refusal;
 }
 
 -- ---- comparisons

@@ -1,20 +1,22 @@
 -- Formulas without fault that stand in the text, laid: a list by its head, its parts one after the other, and what is behind them.
-use Rattle.std.specs.Prelude.{ℕ, suc, ◌-◌, ◌<◌, ◌≡◌, true, cond, List, [], ◌∷◌, eqb}
+use Rattle.std.specs.Prelude.{ℕ, suc, ◌-◌, ◌<◌, ◌≡◌, None, cond, List, [], ◌∷◌, eqb, Result, Ok, Err}
 use Rattle.std.proofs.Math.Option.{Option, none, some}
+use Rattle.scope.specs.declared.Refusal.{Refusal}
 use Rattle.smtlib.specs.Lexicon.{most_nesting}
 use Rattle.smtlib.specs.Forms.{Forms, nothing, word, list, outermost}
 use Rattle.smtlib.specs.Terms.{Head, terms_of}
-use Rattle.smtlib.specs.Formulas.{Clause, faults_among, joining, list_clause, clauses_of}
+use Rattle.smtlib.specs.Formulas.{Clause, faults_among, list_clause, clauses_of}
 use Rattle.smtlib.specs.Imported.{placed_from}
+use Rattle.lexicon.specs.Spots.{spot_of}
 use Rattle.forms.specs.Places.{forms_at, outer, around, Unbroken}
 use Rattle.forms.specs.Read.{ListEnd, rest_of}
-use Rattle.terms.specs.Heads.{head_code}
+use Rattle.terms.specs.Heads.{word_code, head_code}
 use Rattle.laying.specs.declared.Laying.{Laying}
 use Rattle.laying.specs.declared.Laid.{Laid}
 use Rattle.laying.specs.declared.lists.ListStart.{ListStart}
 use Rattle.laying.specs.declared.lists.PartEnd.{PartEnd}
-use Rattle.laying.specs.Laid.{LaysMore}
-use Rattle.laying.specs.Joins.{join_of}
+use Rattle.laying.specs.Laid.{LaysMore, Refuses}
+use Rattle.laying.specs.Joins.{joined_nodes}
 
 -- ---- formulas without fault
 
@@ -35,7 +37,7 @@ clause_in text names s h = list_clause h s.place (terms_of names (forms_at text 
 
 pub record HeadedList (text : List ℕ) (at depth : ℕ) (names : List (List ℕ)) (s : ListStart) : Type 0 where
   pub head : Head
-  pub code_is : s.code ≡ head_code head
+  pub code_is : word_code s.head ≡ head_code head
   pub clauses : clauses_of names (forms_at text at) ≡ clause_in text names s head ∷ clauses_of names (outermost (around text s.next))
   pub faultless : (clause_in text names s head).faults ≡ []
   pub levels : outer (around text s.next) ≡ around text at
@@ -46,14 +48,21 @@ pub record HeadedList (text : List ℕ) (at depth : ℕ) (names : List (List ℕ
 unfoldable pub ListStarts : List ℕ → ℕ → ListStart → Type 0
 ListStarts text at s = (depth : ℕ) (names : List (List ℕ)) → Unbroken text at depth → FirstFaultless (clauses_of names (forms_at text at)) → HeadedList text at depth names s
 
--- the list laid, from its parts on, and what is behind it where nothing was refused
-pub record ListLaid (text : List ℕ) (at depth : ℕ) (names : List (List ℕ)) (h : Head) (place : ℕ) (before : Laying) (r : Laid) : Type 0 where
-  pub laid : LaysMore (placed_from before.depth (list_clause h place (terms_of names (forms_at text at)) (clauses_of names (forms_at text at))).formula) before r.laying
-  pub closed : r.laying.refusal.number ≡ 0 → ListEnd text at (depth - 1) r.next
+-- the clause of a list, from its parts on
+abbrev pub list_from : List ℕ → ℕ → List (List ℕ) → Head → ℕ → Clause
+list_from text at names h place = list_clause h place (terms_of names (forms_at text at)) (clauses_of names (forms_at text at))
 
-unfoldable pub ListLays : List ℕ → ℕ → ℕ → List (List ℕ) → ℕ → ℕ → Laying → Laid → Type 0
-ListLays text at depth names head place before r =
-    (h : Head) → head ≡ head_code h → (list_clause h place (terms_of names (forms_at text at)) (clauses_of names (forms_at text at))).faults ≡ [] → ListLaid text at depth names h place before r
+-- the list laid, from its parts on, and what is behind it; or refused
+pub record ListLaid (text : List ℕ) (at depth : ℕ) (names : List (List ℕ)) (h : Head) (place : ℕ) (before : Laying) (r : Laid) : Type 0 where
+  pub laid : LaysMore (placed_from before.depth (list_from text at names h place).formula) before r.laying
+  pub closed : ListEnd text at (depth - 1) r.next
+
+abbrev pub ListLaidOr : List ℕ → ℕ → ℕ → List (List ℕ) → Head → ℕ → Laying → Result Laid Refusal → Type 0
+ListLaidOr text at depth names h place before (Ok r) = ListLaid text at depth names h place before r
+ListLaidOr text at depth names h place before (Err e) = Refuses (placed_from before.depth (list_from text at names h place).formula) before e
+
+unfoldable pub ListLays : List ℕ → ℕ → ℕ → List (List ℕ) → ℕ → ℕ → Laying → Result Laid Refusal → Type 0
+ListLays text at depth names head place before r = (h : Head) → head ≡ head_code h → (list_from text at names h place).faults ≡ [] → ListLaidOr text at depth names h place before r
 
 -- ---- the parts of a list, joined
 
@@ -65,8 +74,8 @@ form_start (list at inner rest) = some at
 
 -- what is behind the part that stands next
 pub record PartEnded (text : List ℕ) (at depth : ℕ) (p : PartEnd) : Type 0 where
-  pub start_is : form_start (rest_of (forms_at text at)) ≡ cond p.last none (some p.place)
-  pub closed : p.last ≡ true → ListEnd text at (depth - 1) p.next
+  pub start_is : p.another ≡ spot_of (form_start (rest_of (forms_at text at)))
+  pub closed : p.another ≡ None → ListEnd text at (depth - 1) p.next
   pub further : at < p.next
 
 unfoldable pub PartEnds : List ℕ → ℕ → PartEnd → Type 0
@@ -77,16 +86,24 @@ abbrev pub join_code : ℕ → ℕ
 join_code head = cond (eqb head 10) 5 4
 
 pub record PartsLaid (text : List ℕ) (at depth : ℕ) (names : List (List ℕ)) (code place : ℕ) (before : Laying) (r : Laid) : Type 0 where
-  pub laid : LaysMore (placed_from before.depth (joining (join_of code) place (clauses_of names (forms_at text at))).formula) before r.laying
-  pub closed : r.laying.refusal.number ≡ 0 → ListEnd text at (depth - 1) r.next
+  pub laid : LaysMore (joined_nodes before.depth code place (clauses_of names (forms_at text at))) before r.laying
+  pub closed : ListEnd text at (depth - 1) r.next
 
--- ---- a formula that stands next, laid at the depth at hand, and what is behind it where nothing was refused
+abbrev pub PartsLaidOr : List ℕ → ℕ → ℕ → List (List ℕ) → ℕ → ℕ → Laying → Result Laid Refusal → Type 0
+PartsLaidOr text at depth names code place before (Ok r) = PartsLaid text at depth names code place before r
+PartsLaidOr text at depth names code place before (Err e) = Refuses (joined_nodes before.depth code place (clauses_of names (forms_at text at))) before e
+
+-- ---- a formula that stands next, laid at the depth at hand, and what is behind it; or refused
 
 pub record ClauseLaid (text : List ℕ) (at depth : ℕ) (names : List (List ℕ)) (c : Clause) (before : Laying) (r : Laid) : Type 0 where
   pub laid : LaysMore (placed_from before.depth c.formula) before r.laying
-  pub clauses : r.laying.refusal.number ≡ 0 → clauses_of names (forms_at text at) ≡ c ∷ clauses_of names (forms_at text r.next)
-  pub levels : r.laying.refusal.number ≡ 0 → around text r.next ≡ around text at
-  pub unbroken : r.laying.refusal.number ≡ 0 → Unbroken text r.next depth
+  pub clauses : clauses_of names (forms_at text at) ≡ c ∷ clauses_of names (forms_at text r.next)
+  pub levels : around text r.next ≡ around text at
+  pub unbroken : Unbroken text r.next depth
 
-unfoldable pub ClauseLays : List ℕ → ℕ → ℕ → List (List ℕ) → Laying → Laid → Type 0
-ClauseLays text at depth names before r = (c : Clause) (rest : List Clause) → clauses_of names (forms_at text at) ≡ c ∷ rest → ClauseLaid text at depth names c before r
+abbrev pub ClauseLaidOr : List ℕ → ℕ → ℕ → List (List ℕ) → Clause → Laying → Result Laid Refusal → Type 0
+ClauseLaidOr text at depth names c before (Ok r) = ClauseLaid text at depth names c before r
+ClauseLaidOr text at depth names c before (Err e) = Refuses (placed_from before.depth c.formula) before e
+
+unfoldable pub ClauseLays : List ℕ → ℕ → ℕ → List (List ℕ) → Laying → Result Laid Refusal → Type 0
+ClauseLays text at depth names before r = (c : Clause) (rest : List Clause) → clauses_of names (forms_at text at) ≡ c ∷ rest → ClauseLaidOr text at depth names c before r

@@ -5,28 +5,24 @@ mod atoms;
 mod lists;
 mod nodes;
 
-ghost use Rattle.std.specs.Prelude.{◌≡◌, ◌≤◌, ◌-◌, ◌<◌, length};
+ghost use Rattle.std.specs.Prelude.{◌≡◌, eqb, ◌≤◌, ◌-◌, ◌<◌, length, IfOk};
 ghost use Rattle.smtlib.specs.Lexicon.{most_nesting};
 ghost use Rattle.smtlib.specs.Formulas.{clauses_of};
 ghost use Rattle.forms.specs.Places.{forms_at};
 ghost use Rattle.terms.specs.Names.{names_in, NamesStand};
+ghost use Rattle.terms.specs.Heads.{word_code};
 ghost use Rattle.terms.specs.Read.{Inside};
 ghost use Rattle.laying.specs.Laid.{Layable};
 ghost use Rattle.laying.specs.Noted.{empty_laying, at_depth};
-ghost use Rattle.laying.specs.Texts.{FirstFaultless, AllFaultless, ListLays, PartsLaid, ClauseLays, join_code};
+ghost use Rattle.laying.specs.Texts.{FirstFaultless, AllFaultless, ListLays, PartsLaidOr, ClauseLays, join_code};
 
 pub use atoms::lay_atom;
 use lists::{list_at, part_end};
 pub use nodes::{at_depth, deepen_if, lay_connective};
 use scope::{Question, Refusal};
-use terms::terms_from;
+use terms::{HeadWord, ListKind, terms_from};
 
-// The codes of heads.
-const NOT: u8 = 8;
-
-const OR: u8 = 10;
-
-// The question of n variables as far as it is laid, the depth at which the next node stands, and the refusal, whose number is 0 where there is none.
+// The question of n variables as far as it is laid, and the depth at which the next node stands.
 #[derive(Clone, Copy)]
 pub struct Laying {
     pub n: usize,
@@ -36,7 +32,6 @@ pub struct Laying {
     pub codes: [u8; Question::NODES],
     pub coefficients: [i32; Question::COEFFICIENTS],
     pub constants: [i32; Question::ATOMS],
-    pub refusal: Refusal,
 }
 
 impl Laying {
@@ -51,15 +46,11 @@ impl Laying {
             codes: [0u8; Question::NODES],
             coefficients: [0i32; Question::COEFFICIENTS],
             constants: [0i32; Question::ATOMS],
-            refusal: Refusal {
-                number: 0,
-                place: 0,
-            },
         }
     }
 }
 
-// What was laid, and the place where what follows it starts, which counts where nothing was refused.
+// What was laid, and the place where what follows it starts.
 #[derive(Clone, Copy)]
 pub struct Laid {
     pub laying: Laying,
@@ -77,31 +68,39 @@ fn laid_at(laying: Laying, depth: usize, next: usize) -> Laid
 fn lay_sides(
     text: &[u8],
     at: usize,
-    head: u8,
+    head: HeadWord,
     place: usize,
     names: &[usize],
     count: usize,
     nesting: usize,
     laying: Laying,
-) -> Laid
-    requires { NamesStand text.now names.now count × (Inside text.now at nesting × (Layable laying × ((3 ≤ head) × (head ≤ 7)))) }
-    ensures inside { (at < result.next) × (result.next ≤ length text.now) }
-    ensures laid { ListLays text.now at (most_nesting - nesting) (names_in text.now names.now count) head place laying result }
+) -> Result<Laid, Refusal>
+    requires { NamesStand text.now names.now count × (Inside text.now at nesting × (Layable laying × ((3 ≤ word_code head) × (word_code head ≤ 7)))) }
+    ensures inside { IfOk result (λ r. (at < r.next) × (r.next ≤ length text.now)) }
+    ensures laid { ListLays text.now at (most_nesting - nesting) (names_in text.now names.now count) (word_code head) place laying result }
 {
     let sides = terms_from(text, at, head, place, names, count, nesting);
-    let numbers = sides.numbers;
-    let laying = lay_atom(laying, head, place, numbers);
-    Laid {
+    let laying = lay_atom(laying, head, place, sides.term.numbers)?;
+    Ok(Laid {
         laying,
         next: sides.next,
-    }
+    })
 }
 
 // The code of the connective that joins the parts of a list, by its head.
-fn join_code(head: u8) -> u8
-    ensures { result ≡ join_code head }
+fn join_code(head: HeadWord) -> u8
+    ensures { result ≡ join_code (word_code head) }
 {
-    if head == OR { 5 } else { 4 }
+    match head {
+        HeadWord::Or => 5,
+        _ => 4,
+    }
+}
+
+fn negates(head: HeadWord) -> bool
+    ensures { result ≡ eqb (word_code head) 8 }
+{
+    matches!(head, HeadWord::Not)
 }
 
 // The formula without fault that stands next in a list, laid at the depth at hand.
@@ -113,26 +112,22 @@ pub fn lay_from(
     count: usize,
     nesting: usize,
     laying: Laying,
-) -> Laid
+) -> Result<Laid, Refusal>
     requires { NamesStand text.now names.now count × (Inside text.now at nesting × (Layable laying × FirstFaultless (clauses_of (names_in text.now names.now count) (forms_at text.now at)))) }
-    ensures inside { (result.next ≤ length text.now) × (result.laying.refusal.number ≡ 0 → at < result.next) }
+    ensures inside { IfOk result (λ r. (at < r.next) × (r.next ≤ length text.now)) }
     ensures laid { ClauseLays text.now at (most_nesting - nesting) (names_in text.now names.now count) laying result }
 {
     let list = list_at(text, at);
     let left = nesting - 1;
-    if list.code < NOT {
+    if let ListKind::Comparison = list.head.kind() {
         return lay_sides(
-            text, list.next, list.code, list.place, names, count, left, laying,
+            text, list.next, list.head, list.place, names, count, left, laying,
         );
     }
-    let begun = deepen_if(list.code == NOT, laying, 3, list.place);
-    if begun.refusal.number != 0 {
-        return laid_at(begun, laying.depth, at);
-    }
-    let code = join_code(list.code);
-    let parts = lay_joined(text, list.next, code, list.place, names, count, left, begun);
-    let more = parts.laying;
-    laid_at(more, laying.depth, parts.next)
+    let begun = deepen_if(negates(list.head), laying, 3, list.place)?;
+    let code = join_code(list.head);
+    let parts = lay_joined(text, list.next, code, list.place, names, count, left, begun)?;
+    Ok(laid_at(parts.laying, laying.depth, parts.next))
 }
 
 // The formulas that follow in a list up to its end, joined by a connective (4 and, 5 or) at the depth at hand: each but the last has a join before it, the
@@ -147,10 +142,10 @@ fn lay_joined(
     count: usize,
     nesting: usize,
     laying: Laying,
-) -> Laid
+) -> Result<Laid, Refusal>
     requires { NamesStand text.now names.now count × (Inside text.now at nesting × (Layable laying × (((4 ≤ code) × (code ≤ 5)) × AllFaultless (clauses_of (names_in text.now names.now count) (forms_at text.now at))))) }
-    ensures inside { (result.next ≤ length text.now) × (result.laying.refusal.number ≡ 0 → at < result.next) }
-    ensures laid { PartsLaid text.now at (most_nesting - nesting) (names_in text.now names.now count) code place laying result }
+    ensures inside { IfOk result (λ r. (at < r.next) × (r.next ≤ length text.now)) }
+    ensures laid { PartsLaidOr text.now at (most_nesting - nesting) (names_in text.now names.now count) code place laying result }
 {
     let depth = laying.depth;
     let mut so_far = laying;
@@ -158,17 +153,13 @@ fn lay_joined(
     let mut next = at;
     loop {
         let end = part_end(text, next);
-        let begun = deepen_if(!end.last, so_far, code, join);
-        if begun.refusal.number != 0 {
-            return laid_at(begun, depth, next);
-        }
-        let part = lay_from(text, next, names, count, nesting, begun);
-        let more = part.laying;
-        if end.last || more.refusal.number != 0 {
-            return laid_at(more, depth, end.next);
-        }
-        so_far = more;
-        join = end.place;
+        let begun = deepen_if(end.another.is_some(), so_far, code, join)?;
+        let part = lay_from(text, next, names, count, nesting, begun)?;
+        let Some(following) = end.another else {
+            return Ok(laid_at(part.laying, depth, end.next));
+        };
+        so_far = part.laying;
+        join = following;
         next = part.next;
     }
 }

@@ -3,21 +3,20 @@ ghost use Rattle.std.specs.Prelude.{◌≤◌, length};
 ghost use Rattle.laying.specs.Texts.{ListStarts, PartEnds};
 
 use forms::{Form, form_at, form_end};
-use terms::head_at;
+use terms::{HeadWord, head_at};
 
-// A list: its place, the code of its head, and where its parts start.
+// A list: its place, its head, and where its parts start.
 #[derive(Clone, Copy)]
 pub struct ListStart {
     pub place: usize,
-    pub code: u8,
+    pub head: HeadWord,
     pub next: usize,
 }
 
-// What is behind a part: the end of the list (last), and where what follows the list starts; or another part, and its place.
+// What is behind a part: another part, by its place, or the end of the list (none), and then the place where what follows the list starts.
 #[derive(Clone, Copy)]
 pub struct PartEnd {
-    pub last: bool,
-    pub place: usize,
+    pub another: Option<usize>,
     pub next: usize,
 }
 
@@ -31,7 +30,7 @@ pub fn list_at(text: &[u8], at: usize) -> ListStart
     let head = head_at(text, form.next);
     ListStart {
         place: form.place,
-        code: head.code,
+        head: head.word,
         next: head.next,
     }
 }
@@ -45,9 +44,13 @@ pub fn part_end(text: &[u8], at: usize) -> PartEnd
     let part = form_at(text, at);
     let after = form_end(text, part);
     let form = form_at(text, after);
+    let another = if form.kind == Form::CLOSE {
+        None
+    } else {
+        Some(form.place)
+    };
     PartEnd {
-        last: form.kind == Form::CLOSE,
-        place: form.place,
+        another,
         next: form.next,
     }
 }

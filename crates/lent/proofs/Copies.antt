@@ -1,11 +1,9 @@
--- Copying cell by cell from the front on: what is still to be copied.
-use mathlib.Core.Path.{◌≡◌, refl, sym, ◌∙◌}
-use mathlib.Core.List.{List, [], ◌∷◌}
-use Prim.Native.Nat.{ℕ, suc, ◌+◌, ◌<◌, ◌≤◌}
-use native.Mathlib.Omega.{arith}
-use native.Mathlib.Numerals.{add-one}
-use lib.ListN.{length, get_or, set, drop, length-set, drop_of_length-le}
-use lib.Seq.{sets, set_out, drop-cons}
+-- Cells set from a place on, as far as there are cells.
+use Rattle.std.proofs.Common.{◌≡◌, refl, sym, ap, ◌∙◌, ℕ, zero, suc, ◌+◌, ◌-◌, ◌<◌, ◌≤◌, min, List, [], ◌∷◌, ◌++◌, arith, length, get_or, set, take, drop, add-zero, length-set}
+use Rattle.std.proofs.Math.Decide.{dec_lt}
+use Rattle.std.proofs.Math.Logic.{by_cases}
+use Rattle.std.proofs.lemmas.List.Edits.{sets, sets-eq}
+use lib.Seq.{set_out, length-take-le}
 
 module _ {ℓ} {A : Type ℓ} where
   -- nothing is set past the end
@@ -13,24 +11,34 @@ module _ {ℓ} {A : Type ℓ} where
   sets_out l i [] h = refl
   sets_out l i (v ∷ vs) h = rw (set_out l i v h) (sets_out l (suc i) vs (omega arith))
 
-  -- the cells from i on are still to be copied, to those from k on, and then all is as it is to be
-  pub record CopyFrom (l₀ l from whole : List A) (i k : ℕ) : Type ℓ where
-    pub same : length l ≡ length l₀
-    pub rest : sets l k (drop i from) ≡ whole
+  take_all : (vs : List A) (n : ℕ) → length vs ≤ n → take n vs ≡ vs
+  take_all [] zero h = refl
+  take_all [] (suc n) h = refl
+  take_all (v ∷ vs) zero h = absurd (omega (arith, h))
+  take_all (v ∷ vs) (suc n) h = ap (λ (l : List A). v ∷ l) (take_all vs n (omega (arith, h)))
 
-  pub copy_start : (l from : List A) (k : ℕ) → CopyFrom l l from (sets l k from) 0 k
-  copy_start l from k = record { same = refl; rest = refl }
+  past_end : (l vs : List A) (i n : ℕ) → length l ≤ i + n → sets l i (take n vs) ≡ sets l i vs
+  past_end l vs i zero h = sym (sets_out l i vs (omega arith))
+  past_end l [] i (suc n) h = refl
+  past_end l (v ∷ vs) i (suc n) h = past_end (set l i v) vs (suc i) n (omega (arith, h, length-set l i v))
 
-  module _ {l₀ l from whole : List A} {i k : ℕ} (inv : CopyFrom l₀ l from whole i k) where
-    pub copy_again : (v d : A) → v ≡ get_or from i d → i < length from → CopyFrom l₀ (set l k v) from whole (i + 1) (k + 1)
-    copy_again v d e h = record {
-      same = length-set l k v ∙ inv.same;
-      rest = rw (add-one i, add-one k, e) (rw (drop-cons from i d h) at inv.rest);
-    }
+  -- the first n of them are all that are set, where n are all, or reach the end
+  pub sets_first : (l vs : List A) (i n : ℕ) → min (length vs) (length l - i) ≤ n → sets l i (take n vs) ≡ sets l i vs
+  sets_first l vs i n h =
+      by_cases (dec_lt n (length vs))
+      (λ p. past_end l vs i n (omega (arith, h)))
+      (λ p. ap (sets l i) (take_all vs n (omega arith)))
 
-    -- no cell is left to copy, or none to copy to
-    pub copy_ended : length from ≤ i → l ≡ whole
-    copy_ended h = rw (drop_of_length-le from h) at inv.rest
+  -- one more
+  pub sets_more : (l vs : List A) (i k : ℕ) (d : A) → k < length vs → sets l i (take (suc k) vs) ≡ set (sets l i (take k vs)) (i + k) (get_or vs k d)
+  sets_more l [] i k d h = absurd (omega (arith, h))
+  sets_more l (v ∷ vs) i zero d h = rw (add-zero i)
+  sets_more l (v ∷ vs) i (suc k) d h =
+      let e : i + suc k ≡ suc i + k = omega arith in
+      rw e (sets_more (set l i v) vs (suc i) k d (omega (arith, h)))
 
-    pub copy_full : length l ≤ k → l ≡ whole
-    copy_full h = sym (sets_out l k (drop i from) h) ∙ inv.rest
+  pub copied : (from to : List A) (n : ℕ) → n ≡ min (length from) (length to) → take n from ++ drop n to ≡ sets to 0 from
+  copied from to n e =
+      let long : length (take n from) ≡ n = length-take-le n from (omega (arith, e)) in
+      let s : sets to 0 (take n from) ≡ take n from ++ drop n to = sets-eq (take n from) to 0 (omega (arith, e, long)) ∙ ap (λ (k : ℕ). take n from ++ drop k to) (omega (arith, long)) in
+      sym s ∙ sets_first to from 0 n (omega (arith, e))

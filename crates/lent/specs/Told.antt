@@ -1,13 +1,14 @@
 -- What an exported call answers: the refusal's number, and in `told` the place and, behind it, the values of its answer.
 -- A cell that is not lent is not written.
-use Rattle.std.specs.Prelude.{ℕ, ◌≡◌, List, [], ◌∷◌, ℤ}
+use Rattle.std.specs.Prelude.{ℕ, ◌≡◌, List, ℤ, Result}
 use Rattle.std.proofs.lemmas.List.Edits.{sets}
-use Rattle.scope.specs.declared.Held.{Held}
+use Rattle.scope.specs.declared.Question.{Question}
+use Rattle.scope.specs.declared.Refusal.{Refusal}
 use Rattle.scope.specs.Refusals.{Told, read_told, write_told, decide_told, build_told}
 use Rattle.scope.specs.Writing.{Wrote}
 use Rattle.scope.specs.Deciding.{Decided}
 use Rattle.scope.specs.Building.{Built}
-use Rattle.figures.specs.Figures.{placed, import_cells, decide_cells, build_cells}
+use Rattle.figures.specs.Figures.{placed, read_cells, import_cells, decide_cells, build_cells}
 use Rattle.lent.specs.Lent.{PartsInto}
 
 pub record Tells (refusal : ℕ) (cells lent : List ℕ) (number₁ : ℕ) (told₁ : List ℕ) : Type 0 where
@@ -26,15 +27,15 @@ pub record WritesInto (w : Wrote) (lent : List ℕ) (number₁ : ℕ) (bytes₁ 
 
 -- ---- reading: beside the place, n, which is 0 where it was refused
 
-pub record ReadsInto (h : Held) (codes₀ : List ℕ) (coefficients₀ constants₀ : List ℤ) (lent : List ℕ) (number₁ : ℕ) (codes₁ : List ℕ) (coefficients₁ constants₁ : List ℤ) (told₁ : List ℕ) : Type 0 where
-  pub told : Tells (read_told h.answer).number ((read_told h.answer).place ∷ h.question.n ∷ []) lent number₁ told₁
-  pub parts : PartsInto h.answer h.question codes₀ coefficients₀ constants₀ codes₁ coefficients₁ constants₁
+pub record ReadsInto (h : Result Question Refusal) (codes₀ : List ℕ) (coefficients₀ constants₀ : List ℤ) (lent : List ℕ) (number₁ : ℕ) (codes₁ : List ℕ) (coefficients₁ constants₁ : List ℤ) (told₁ : List ℕ) : Type 0 where
+  pub told : Tells (read_told h).number (read_cells h) lent number₁ told₁
+  pub parts : PartsInto h codes₀ coefficients₀ constants₀ codes₁ coefficients₁ constants₁
 
 -- ---- importing: behind n the bounds of the names, zeros where it was refused
 
-pub record ImportsInto (h : Held) (names codes₀ : List ℕ) (coefficients₀ constants₀ : List ℤ) (lent : List ℕ) (number₁ : ℕ) (codes₁ : List ℕ) (coefficients₁ constants₁ : List ℤ) (told₁ : List ℕ) : Type 0 where
-  pub told : Tells (read_told h.answer).number (import_cells h.answer h.question.n names) lent number₁ told₁
-  pub parts : PartsInto h.answer h.question codes₀ coefficients₀ constants₀ codes₁ coefficients₁ constants₁
+pub record ImportsInto (h : Result Question Refusal) (names codes₀ : List ℕ) (coefficients₀ constants₀ : List ℤ) (lent : List ℕ) (number₁ : ℕ) (codes₁ : List ℕ) (coefficients₁ constants₁ : List ℤ) (told₁ : List ℕ) : Type 0 where
+  pub told : Tells (read_told h).number (import_cells h names) lent number₁ told₁
+  pub parts : PartsInto h codes₀ coefficients₀ constants₀ codes₁ coefficients₁ constants₁
 
 -- ---- deciding and building: the place, the verdict, the states, the letters
 

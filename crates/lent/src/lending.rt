@@ -4,28 +4,14 @@ ghost use Rattle.std.proofs.lemmas.List.Edits.{sets};
 ghost use Rattle.lent.specs.Lent.{PartsCopied};
 
 // As many cells as there are in both, from the front on.
-pub fn copy_bytes(from: &[u8], to: &mut [u8])
+pub fn copy<T: Copy>(from: &[T], to: &mut [T])
     ensures { to.new ≡ sets to.old 0 from.now }
 {
-    let mut i = 0;
-    while i < from.len() && i < to.len() {
-        to[i] = from[i];
-        i += 1;
-    }
+    let count = from.len().min(to.len());
+    to[..count].copy_from_slice(&from[..count]);
 }
 
-// The same of signed numbers.
-pub fn copy_numbers(from: &[i32], to: &mut [i32])
-    ensures { to.new ≡ sets to.old 0 from.now }
-{
-    let mut i = 0;
-    while i < from.len() && i < to.len() {
-        to[i] = from[i];
-        i += 1;
-    }
-}
-
-// Each part of a question: those that are held into those that are lent, or the other way round.
+// Each part of a question: those that are held into those that are lent, or the other way round. C lends the parts apart (include/pelohuaki.h).
 pub fn copy_parts(
     codes: &[u8],
     coefficients: &[i32],
@@ -36,7 +22,7 @@ pub fn copy_parts(
 )
     ensures { PartsCopied codes.now coefficients.now constants.now to_codes.old to_coefficients.old to_constants.old to_codes.new to_coefficients.new to_constants.new }
 {
-    copy_bytes(codes, to_codes);
-    copy_numbers(coefficients, to_coefficients);
-    copy_numbers(constants, to_constants);
+    copy(codes, to_codes);
+    copy(coefficients, to_coefficients);
+    copy(constants, to_constants);
 }

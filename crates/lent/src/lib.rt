@@ -5,7 +5,4 @@ mod lending;
 mod telling;
 
 pub use lending::copy_parts;
-pub use telling::{
-    tell_built, tell_decided, tell_import, tell_read, tell_record, tell_spelt, tell_truth,
-    tell_written,
-};
+pub use telling::{tell, tell_import};

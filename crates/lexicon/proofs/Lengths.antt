@@ -1,23 +1,21 @@
 -- Words by their length.
-use Prim.Native.Nat.{ℕ, ◌+◌, ◌-◌, ◌≤◌, ◌<◌}
-use native.Mathlib.Omega.{arith}
+use Prim.Native.Nat.{ℕ}
 use mathlib.Core.Path.{◌≡◌, refl, sym, ap, ◌∙◌}
-use mathlib.Core.Bool.{Bool, true, false, true≢false, cond, ◌||◌, or-false, and-eq-true_iff}
+use mathlib.Core.Bool.{Bool, true, false, true≢false, cond, ◌||◌, and-eq-true_iff}
 use mathlib.Core.List.{List, [], ◌∷◌}
-use lib.ListN.{length, take, drop}
-use lib.Dec.{ltb, eqb}
-use borrow.Author.Tests.{ltb-false, eqb-false}
-use Rattle.scope.specs.Whole.{all}
+use lib.ListN.{length}
+use lib.Dec.{eqb}
+use lib.Pointwise.{pointwise}
+use borrow.Author.Tests.{eqb-false}
+use Rattle.std.specs.List.{list_all}
 use Rattle.smtlib.specs.Lexicon.{among}
-use Rattle.smtlib.specs.Spelling.{same, is_in, spelling, reserved_words}
-use Rattle.lexicon.proofs.Same.{unlike_lengths, part_length}
+use Rattle.smtlib.specs.Spelling.{same, is_in}
+use Rattle.std.specs.List.{list_any}
+use Rattle.lexicon.proofs.Same.{one_of_lem, unlike_lengths}
 
 abbrev of_length : ℕ → List (List ℕ) → List (List ℕ)
 of_length n [] = []
 of_length n (v ∷ vs) = cond (eqb n (length v)) (v ∷ of_length n vs) (of_length n vs)
-
-pub stretch_inside : {from to n : ℕ} → from ≤ to → to ≤ n → from + (to - from) ≤ n
-stretch_inside h k = omega arith
 
 -- a word of another length is not the same
 in_of_length : (w : List ℕ) (vs : List (List ℕ)) → is_in w vs ≡ is_in w (of_length (length w) vs)
@@ -29,34 +27,15 @@ in_of_length w (v ∷ vs) = go (eqb (length w) (length v)) refl (in_of_length w 
     go true e ih = ap (λ (t : Bool). same w v || t) ih
     go false e ih = rw (unlike_lengths w v (eqb-false (length w) (length v) e)) ih
 
-pub part_in_lem : (vs : List (List ℕ)) (text : List ℕ) (from n : ℕ) → from + n ≤ length text → is_in (take n (drop from text)) (of_length n vs) ≡ is_in (take n (drop from text)) vs
-part_in_lem vs text from n h = sym (in_of_length (take n (drop from text)) vs ∙ ap (λ (k : ℕ). is_in (take n (drop from text)) (of_length k vs)) (part_length text from n h))
+-- one of the words of its length
+pub listed : (w : List ℕ) (vs : List (List ℕ)) (n : ℕ) → length w ≡ n → list_any (λ (v : List ℕ). pointwise eqb w v) (of_length n vs) ≡ is_in w vs
+listed w vs n e = one_of_lem w (of_length n vs) ∙ sym (in_of_length w vs ∙ ap (λ (k : ℕ). is_in w (of_length k vs)) e)
 
 -- ---- a length that no word has
 
-pub unlisted : (ns : List ℕ) (w : List ℕ) (vs : List (List ℕ)) → all (λ (v : List ℕ). among ns (length v)) vs ≡ true → among ns (length w) ≡ false → is_in w vs ≡ false
-unfolding is_in all
+pub unlisted : (ns : List ℕ) (w : List ℕ) (vs : List (List ℕ)) → list_all (λ (v : List ℕ). among ns (length v)) vs ≡ true → among ns (length w) ≡ false → is_in w vs ≡ false
+unfolding is_in
 unlisted ns w [] a h = refl
 unlisted ns w (v ∷ vs) a h =
-    let both = (and-eq-true_iff (among ns (length v)) (all (λ (u : List ℕ). among ns (length u)) vs)).0 a in
+    let both = (and-eq-true_iff (among ns (length v)) (list_all (λ (u : List ℕ). among ns (length u)) vs)).0 a in
     rw (unlike_lengths w v (λ e. true≢false (sym both.0 ∙ ap (among ns) (sym e) ∙ h))) (unlisted ns w vs both.1 h)
-
--- ---- words of more than so many letters
-
-abbrev long_words : ℕ → List (List ℕ) → List (List ℕ)
-long_words k [] = []
-long_words k (v ∷ vs) = cond (ltb k (length v)) (v ∷ long_words k vs) (long_words k vs)
-
-in_long : (w : List ℕ) (k : ℕ) (vs : List (List ℕ)) → k < length w → is_in w vs ≡ is_in w (long_words k vs)
-unfolding is_in
-in_long w k [] h = refl
-in_long w k (v ∷ vs) h = go (ltb k (length v)) refl (in_long w k vs h)
-  where
-    go : (t : Bool) → ltb k (length v) ≡ t → is_in w vs ≡ is_in w (long_words k vs) → same w v || is_in w vs ≡ is_in w (cond t (v ∷ long_words k vs) (long_words k vs))
-    go true e ih = ap (λ (t : Bool). same w v || t) ih
-    go false e ih = rw (unlike_lengths w v (λ q. omega (arith, ltb-false k (length v) e))) ih
-
--- the one that is longer than 18
-pub reserved_last : (w : List ℕ) → 18 < length w → is_in w reserved_words ≡ same w (spelling "get-unsat-assumptions")
-unfolding is_in
-reserved_last w h = in_long w 18 reserved_words h ∙ or-false (same w (spelling "get-unsat-assumptions"))

@@ -1,7 +1,5 @@
-pub mod Bytes
+pub mod Opened
 pub mod Depths
 pub mod Broken
 pub mod Same
-pub mod Cuts
 pub mod Lengths
-pub mod Lowest

@@ -1,3 +1,3 @@
 -- The words of the contracts.
-pub mod Codes
+pub mod Steps
 pub mod Spots

@@ -1,92 +1,85 @@
 // What each byte does, by the state at hand.
-ghost use Rattle.std.specs.Prelude.{◌≡◌, cond, ◌&&◌, ◌≤◌, leb};
+#![tactic(auto, unfolding(crate::proofs::Opened::moves))]
+
+ghost use Rattle.std.specs.Prelude.{◌≡◌, ◌≤◌};
 ghost use Rattle.smtlib.specs.Spelling.{spelling};
-ghost use Rattle.smtlib.specs.Lexicon.{among, white, is_digit, is_letter, symbol_first, symbol_next, hex_digit, bit_digit, printable, fresh, leaves_token, move_of, Move, starts, stuck, symbol, complete, most_nesting, comment, digits, hash, string, quote, bars};
-ghost use Rattle.lexicon.specs.Codes.{move_code, state_named, depth_then};
+ghost use Rattle.smtlib.specs.Lexicon.{among, white, is_digit, is_letter, symbol_first, symbol_next, hex_digit, printable, fresh, leaves_token, move_of, state_after, complete, most_nesting};
+ghost use Rattle.lexicon.specs.Steps.{hand_of, move_said, depth_then};
 
-// The states, and 16 times the kinds of moves.
-const APART: u8 = 0;
+use crate::NESTING;
 
-const COMMENT: u8 = 1;
+// What is at hand: no token; a comment; 0 or other digits, a point and digits behind it; #, #x, #b and digits behind them; a colon that a symbol
+// follows; a symbol; a string, a quote in it, which ends it or is the first of two; what stands between bars.
+#[derive(Clone, Copy, PartialEq, Eq)]
+pub enum State {
+    Apart,
+    Comment,
+    Nought,
+    Digits,
+    Point,
+    Decimals,
+    Hash,
+    HexStart,
+    Hexes,
+    BitStart,
+    Bits,
+    Colon,
+    Symbol,
+    String,
+    Quote,
+    Bars,
+}
 
-const NOUGHT: u8 = 2;
+// What a byte does: it is no byte of a token, the first one of a token, or another one of the token at hand, with the state behind it; or it opens or
+// closes a list, or cannot go on.
+#[derive(Clone, Copy, PartialEq, Eq)]
+pub enum Step {
+    Skips(State),
+    Starts(State),
+    GoesOn(State),
+    Opens,
+    Closes,
+    Stuck,
+}
 
-const DIGITS: u8 = 3;
-
-const POINT: u8 = 4;
-
-const DECIMALS: u8 = 5;
-
-const HASH: u8 = 6;
-
-const HEX_START: u8 = 7;
-
-const HEXES: u8 = 8;
-
-const BIT_START: u8 = 9;
-
-const BITS: u8 = 10;
-
-const COLON: u8 = 11;
-
-const SYMBOL: u8 = 12;
-
-const STRING: u8 = 13;
-
-const QUOTE: u8 = 14;
-
-const BARS: u8 = 15;
-
-const STARTS: u8 = 16;
-
-const SKIPS: u8 = 32;
-
-const OPENS: u8 = 48;
-
-const CLOSES: u8 = 64;
-
-const STUCK: u8 = 80;
-
-// One more than the lists that may be open: the depth behind a move that is not possible.
-const TOO_DEEP: usize = 33;
-
-fn between(byte: u8, least: u8, most: u8) -> bool
-    ensures { result ≡ leb least byte && leb byte most }
-{
-    (least <= byte) & (byte <= most)
+impl Step {
+    // The state behind it.
+    pub fn state(self) -> State
+        ensures { hand_of result ≡ state_after (move_said self) }
+    {
+        match self {
+            Step::Skips(state) | Step::Starts(state) | Step::GoesOn(state) => state,
+            Step::Opens | Step::Closes | Step::Stuck => State::Apart,
+        }
+    }
 }
 
 fn white(byte: u8) -> bool
     ensures { result ≡ white byte }
 {
-    (byte == b'\t') | (byte == b'\n') | (byte == b'\r') | (byte == b' ')
+    matches!(byte, b'\t' | b'\n' | b'\r' | b' ')
 }
 
 pub fn is_digit(byte: u8) -> bool
     ensures { result ≡ is_digit byte }
 {
-    between(byte, b'0', b'9')
+    byte.is_ascii_digit()
 }
 
 fn is_letter(byte: u8) -> bool
     ensures { result ≡ is_letter byte }
 {
-    between(byte, b'A', b'Z') | between(byte, b'a', b'z')
+    byte.is_ascii_alphabetic()
 }
 
 // Whether a symbol may have this sign: one of ~!@$%^&*_-+=<>.?/
 fn is_sign(byte: u8) -> bool
     ensures { result ≡ among (spelling "~!@$%^&*_-+=<>.?/") byte }
 {
-    between(byte, b'<', b'@')
-        | between(byte, b'-', b'/')
-        | between(byte, b'$', b'&')
-        | (byte == b'*')
-        | (byte == b'+')
-        | (byte == b'^')
-        | (byte == b'_')
-        | (byte == b'!')
-        | (byte == b'~')
+    matches!(
+        byte,
+        b'<'..=b'@' | b'-'..=b'/' | b'$'..=b'&' | b'*' | b'+' | b'^' | b'_' | b'!' | b'~'
+    )
 }
 
 pub fn symbol_first(byte: u8) -> bool
@@ -98,203 +91,120 @@ pub fn symbol_first(byte: u8) -> bool
 fn symbol_next(byte: u8) -> bool
     ensures { result ≡ symbol_next byte }
 {
-    if is_letter(byte) {
-        return true;
-    }
-    is_sign(byte) | is_digit(byte)
+    is_letter(byte) || is_sign(byte) || is_digit(byte)
 }
 
 fn hex_digit(byte: u8) -> bool
     ensures { result ≡ hex_digit byte }
 {
-    is_digit(byte) | between(byte, b'A', b'F') | between(byte, b'a', b'f')
-}
-
-fn bit_digit(byte: u8) -> bool
-    ensures { result ≡ bit_digit byte }
-{
-    between(byte, b'0', b'1')
+    byte.is_ascii_hexdigit()
 }
 
 fn printable(byte: u8) -> bool
     ensures { result ≡ printable byte }
 {
-    (b' ' <= byte) & (byte != 127) | white(byte)
-}
-
-fn sign_or_stuck(byte: u8) -> u8
-    ensures { result ≡ cond (among (spelling "~!@$%^&*_-+=<>.?/") byte) (move_code (starts symbol)) (move_code stuck) }
-{
-    if is_sign(byte) {
-        return STARTS + SYMBOL;
-    }
-    STUCK
+    white(byte) || matches!(byte, b' '..=b'~' | 128..)
 }
 
 // A byte where no token is at hand. Letters and white space, the most of a text, are tried first.
-fn fresh(byte: u8) -> u8
-    ensures { result ≡ move_code (fresh byte) }
+fn fresh(byte: u8) -> Step
+    ensures { move_said result ≡ fresh byte }
 {
-    if is_letter(byte) {
-        return STARTS + SYMBOL;
-    }
-    if white(byte) {
-        return SKIPS + APART;
-    }
-    if is_digit(byte) {
-        return if byte == b'0' {
-            STARTS + NOUGHT
-        } else {
-            STARTS + DIGITS
-        };
-    }
     match byte {
-        b'(' => OPENS,
-        b')' => CLOSES,
-        b';' => SKIPS + COMMENT,
-        b'#' => STARTS + HASH,
-        b':' => STARTS + COLON,
-        b'"' => STARTS + STRING,
-        b'|' => STARTS + BARS,
-        _ => sign_or_stuck(byte),
+        b'A'..=b'Z' | b'a'..=b'z' => Step::Starts(State::Symbol),
+        b'\t' | b'\n' | b'\r' | b' ' => Step::Skips(State::Apart),
+        b'0' => Step::Starts(State::Nought),
+        b'1'..=b'9' => Step::Starts(State::Digits),
+        b'(' => Step::Opens,
+        b')' => Step::Closes,
+        b';' => Step::Skips(State::Comment),
+        b'#' => Step::Starts(State::Hash),
+        b':' => Step::Starts(State::Colon),
+        b'"' => Step::Starts(State::String),
+        b'|' => Step::Starts(State::Bars),
+        _ if is_sign(byte) => Step::Starts(State::Symbol),
+        _ => Step::Stuck,
     }
 }
 
 // A byte behind a token that does not end itself.
-fn leaves_token(byte: u8) -> u8
-    ensures { result ≡ move_code (leaves_token byte) }
+fn leaves_token(byte: u8) -> Step
+    ensures { move_said result ≡ leaves_token byte }
 {
-    if white(byte) {
-        return SKIPS + APART;
-    }
     match byte {
-        b'(' => OPENS,
-        b')' => CLOSES,
-        b';' => SKIPS + COMMENT,
-        b'"' => STARTS + STRING,
-        b'|' => STARTS + BARS,
-        _ => STUCK,
+        b'\t' | b'\n' | b'\r' | b' ' => Step::Skips(State::Apart),
+        b'(' => Step::Opens,
+        b')' => Step::Closes,
+        b';' => Step::Skips(State::Comment),
+        b'"' => Step::Starts(State::String),
+        b'|' => Step::Starts(State::Bars),
+        _ => Step::Stuck,
     }
 }
 
-fn on_or_stuck(goes_on: bool, state: u8) -> u8
-    ensures { result ≡ cond goes_on state (move_code stuck) }
+// What a byte does in a state.
+pub fn move_of(state: State, byte: u8) -> Step
+    ensures { move_said result ≡ move_of (hand_of state) byte }
 {
-    if goes_on {
-        return state;
-    }
-    STUCK
-}
-
-fn on_or_left(goes_on: bool, state: u8, byte: u8) -> u8
-    ensures { result ≡ cond goes_on state (move_code (leaves_token byte)) }
-{
-    if goes_on {
-        return state;
-    }
-    leaves_token(byte)
-}
-
-fn comment_move(byte: u8) -> u8
-    ensures { result ≡ move_code (move_of comment byte) }
-{
-    if (byte == b'\n') | (byte == b'\r') {
-        return SKIPS + APART;
-    }
-    SKIPS + COMMENT
-}
-
-fn digits_move(byte: u8) -> u8
-    ensures { result ≡ move_code (move_of digits byte) }
-{
-    if is_digit(byte) {
-        return DIGITS;
-    }
-    on_or_left(byte == b'.', POINT, byte)
-}
-
-fn hash_move(byte: u8) -> u8
-    ensures { result ≡ move_code (move_of hash byte) }
-{
-    if byte == b'x' {
-        return HEX_START;
-    }
-    on_or_stuck(byte == b'b', BIT_START)
-}
-
-fn string_move(byte: u8) -> u8
-    ensures { result ≡ move_code (move_of string byte) }
-{
-    if byte == b'"' {
-        return QUOTE;
-    }
-    on_or_stuck(printable(byte), STRING)
-}
-
-fn quote_move(byte: u8) -> u8
-    ensures { result ≡ move_code (move_of quote byte) }
-{
-    if byte == b'"' {
-        return STRING;
-    }
-    fresh(byte)
-}
-
-fn bars_move(byte: u8) -> u8
-    ensures { result ≡ move_code (move_of bars byte) }
-{
-    if byte == b'|' {
-        return APART;
-    }
-    on_or_stuck(printable(byte) & (byte != b'\\'), BARS)
-}
-
-// What a byte does in a state: 16 times the move's kind, and the state after it.
-pub fn move_of(state: u8, byte: u8) -> u8
-    ensures { result ≡ move_code (move_of (state_named state) byte) }
-{
-    match state {
-        APART => fresh(byte),
-        COMMENT => comment_move(byte),
-        NOUGHT => on_or_left(byte == b'.', POINT, byte),
-        DIGITS => digits_move(byte),
-        POINT => on_or_stuck(is_digit(byte), DECIMALS),
-        DECIMALS => on_or_left(is_digit(byte), DECIMALS, byte),
-        HASH => hash_move(byte),
-        HEX_START => on_or_stuck(hex_digit(byte), HEXES),
-        HEXES => on_or_left(hex_digit(byte), HEXES, byte),
-        BIT_START => on_or_stuck(bit_digit(byte), BITS),
-        BITS => on_or_left(bit_digit(byte), BITS, byte),
-        COLON => on_or_stuck(symbol_first(byte), SYMBOL),
-        SYMBOL => on_or_left(symbol_next(byte), SYMBOL, byte),
-        STRING => string_move(byte),
-        QUOTE => quote_move(byte),
-        _ => bars_move(byte),
+    match (state, byte) {
+        (State::Apart, _) => fresh(byte),
+        (State::Comment, b'\n' | b'\r') => Step::Skips(State::Apart),
+        (State::Comment, _) => Step::Skips(State::Comment),
+        (State::Nought, b'.') => Step::GoesOn(State::Point),
+        (State::Nought, _) => leaves_token(byte),
+        (State::Digits, b'0'..=b'9') => Step::GoesOn(State::Digits),
+        (State::Digits, b'.') => Step::GoesOn(State::Point),
+        (State::Digits, _) => leaves_token(byte),
+        (State::Point, b'0'..=b'9') => Step::GoesOn(State::Decimals),
+        (State::Decimals, b'0'..=b'9') => Step::GoesOn(State::Decimals),
+        (State::Decimals, _) => leaves_token(byte),
+        (State::Hash, b'x') => Step::GoesOn(State::HexStart),
+        (State::Hash, b'b') => Step::GoesOn(State::BitStart),
+        (State::HexStart, _) if hex_digit(byte) => Step::GoesOn(State::Hexes),
+        (State::Hexes, _) if hex_digit(byte) => Step::GoesOn(State::Hexes),
+        (State::Hexes, _) => leaves_token(byte),
+        (State::BitStart, b'0' | b'1') => Step::GoesOn(State::Bits),
+        (State::Bits, b'0' | b'1') => Step::GoesOn(State::Bits),
+        (State::Bits, _) => leaves_token(byte),
+        (State::Colon, _) if symbol_first(byte) => Step::GoesOn(State::Symbol),
+        (State::Symbol, _) if symbol_next(byte) => Step::GoesOn(State::Symbol),
+        (State::Symbol, _) => leaves_token(byte),
+        (State::String, b'"') => Step::GoesOn(State::Quote),
+        (State::String, _) if printable(byte) => Step::GoesOn(State::String),
+        (State::Quote, b'"') => Step::GoesOn(State::String),
+        (State::Quote, _) => fresh(byte),
+        (State::Bars, b'|') => Step::GoesOn(State::Apart),
+        (State::Bars, b'\\') => Step::Stuck,
+        (State::Bars, _) if printable(byte) => Step::GoesOn(State::Bars),
+        _ => Step::Stuck,
     }
 }
 
-// The lists that are open behind a move, or 33 where it is not possible.
-pub fn depth_then(step: u8, depth: usize) -> usize
+// The lists that are open behind a move, where it is possible.
+pub fn depth_then(step: Step, depth: usize) -> Option<usize>
     requires { depth ≤ most_nesting }
-    ensures { (m : Move) → step ≡ move_code m → result ≡ depth_then m depth }
+    ensures { result ≡ depth_then (move_said step) depth }
 {
     match step {
-        OPENS => depth + 1,
-        CLOSES => if depth == 0 { TOO_DEEP } else { depth - 1 },
-        STUCK => TOO_DEEP,
-        _ => depth,
+        Step::Opens if depth < NESTING => Some(depth + 1),
+        Step::Closes => depth.checked_sub(1),
+        Step::Opens | Step::Stuck => None,
+        Step::Skips(_) | Step::Starts(_) | Step::GoesOn(_) => Some(depth),
     }
 }
 
 // Whether the text may end in a state.
-pub fn complete(state: u8) -> bool
-    ensures { result ≡ complete (state_named state) }
+pub fn complete(state: State) -> bool
+    ensures { result ≡ complete (hand_of state) }
 {
-    (state < BARS)
-        & (state != STRING)
-        & (state != POINT)
-        & (state != HASH)
-        & (state != HEX_START)
-        & (state != BIT_START)
-        & (state != COLON)
+    !matches!(
+        state,
+        State::Point
+            | State::Hash
+            | State::HexStart
+            | State::BitStart
+            | State::Colon
+            | State::String
+            | State::Bars
+    )
 }

@@ -9,9 +9,6 @@ pub use judge::judge;
 pub use place::{Place, Step, next_record, open, peek_record};
 pub use reading::{ReadPart, read, read_from};
 pub use records::{body, record_at};
-pub use scope::{
-    BuildAnswer, DecideAnswer, Held, Limits, Question, ReadAnswer, RecordAnswer, Refusal,
-    SpellAnswer, TruthAnswer, WriteAnswer,
-};
+pub use scope::{Building, Decision, Limits, Question, Record, Refusal, Rule};
 pub use words::{run, spell};
 pub use writing::write;

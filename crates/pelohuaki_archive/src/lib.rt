@@ -9,9 +9,10 @@ ghost use Rattle.scope.specs.Deciding.{decided};
 ghost use Rattle.scope.specs.Building.{built};
 ghost use Rattle.scope.specs.Running.{ran};
 ghost use Rattle.scope.specs.Words.{spelt};
-ghost use Rattle.importing.specs.Given.{import_given};
+ghost use Rattle.importing.specs.Given.{question_given, import_given};
 ghost use Rattle.lent.specs.Told.{Gives, ReadsInto, WritesInto, ImportsInto, DecidesInto, BuildsInto};
 ghost use Rattle.lent.specs.Lent.{lent_question};
+ghost use Rattle.pelohuaki_c.specs.Bounds.{bounds_told};
 
 #[unsafe(no_mangle)]
 pub extern "C" fn pelohuaki_record_at(bytes: &[u8], at: usize, told: &mut [u64]) -> u64
@@ -55,7 +56,7 @@ pub extern "C" fn pelohuaki_import(
     constants: &mut [i32],
     told: &mut [u64],
 ) -> u64
-    ensures { ImportsInto (import_given text.now).held (import_given text.now).names codes.old coefficients.old constants.old told.old result codes.new coefficients.new constants.new told.new }
+    ensures { ImportsInto (question_given (import_given text.now)) (bounds_told (import_given text.now)) codes.old coefficients.old constants.old told.old result codes.new coefficients.new constants.new told.new }
 {
     pelohuaki_c::pelohuaki_import(text, codes, coefficients, constants, told)
 }

@@ -8,7 +8,7 @@ ghost use Rattle.records.specs.Bodies.{BodyOf};
 ghost use Rattle.place.specs.Steps.{moved_by, start_by, len_by, PlaceStepped};
 
 use records::{body, record_at};
-use scope::RecordAnswer;
+use scope::{Record, Refusal};
 
 #[derive(Clone, Copy)]
 pub struct Place<'a> {
@@ -17,11 +17,11 @@ pub struct Place<'a> {
 }
 
 // A step: the place moved past the record, its answer, and the record's body as that stretch of the caller's bytes.
-// Where it is refused, the place as it was, and no bytes.
+// Where it is refused, the place as it was, and no bytes, which stand beside the answer for that.
 #[derive(Clone, Copy)]
 pub struct Step<'a> {
     pub place: Place<'a>,
-    pub answer: RecordAnswer,
+    pub answer: Result<Record, Refusal>,
     pub body: &'a [u8],
 }
 
@@ -33,37 +33,27 @@ pub fn open<'a>(bytes: &'a [u8]) -> Place<'a>
 }
 
 // The record at the place, which is not moved.
-pub fn peek_record<'a>(place: Place<'a>) -> RecordAnswer
+pub fn peek_record<'a>(place: Place<'a>) -> Result<Record, Refusal>
     ensures { result ≡ record_at place.entry.bytes.now place.entry.at }
 {
     record_at(place.bytes, place.at)
 }
 
-fn moved(answer: RecordAnswer, at: usize) -> usize
+fn moved(answer: Result<Record, Refusal>, at: usize) -> usize
     ensures { result ≡ moved_by answer at }
 {
     match answer {
-        RecordAnswer::Record {
-            kind: _,
-            start: _,
-            len: _,
-            next,
-        } => next,
-        RecordAnswer::Refused(_) => at,
+        Ok(record) => record.next,
+        Err(_) => at,
     }
 }
 
-fn body_of<'a>(bytes: &'a [u8], answer: RecordAnswer) -> &'a [u8]
+fn body_of<'a>(bytes: &'a [u8], answer: Result<Record, Refusal>) -> &'a [u8]
     ensures { BodyOf bytes.entry (start_by answer) (len_by answer) result }
 {
     match answer {
-        RecordAnswer::Record {
-            kind: _,
-            start,
-            len,
-            next: _,
-        } => body(bytes, start, len),
-        RecordAnswer::Refused(_) => body(bytes, 0, 0),
+        Ok(record) => body(bytes, record.start, record.len),
+        Err(_) => body(bytes, 0, 0),
     }
 }
 

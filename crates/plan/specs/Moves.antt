@@ -1,14 +1,16 @@
 -- Where the numbering stands: how it moves on to the place after a letter, past letters that repeat others, and how it ended.
-use Rattle.std.specs.Prelude.{ℕ, ◌+◌, ◌*◌, ◌≤◌, ◌<◌, ◌≡◌, Bool, true, false}
+use Rattle.std.specs.Prelude.{ℕ, ◌+◌, ◌*◌, ◌≤◌, ◌<◌, ◌≡◌, false, Option, MatchOption, Result, Ok, Err}
 use Rattle.scope.specs.Sizes.{most_letters}
 use Rattle.formula.specs.Truths.{bit_at}
 use Rattle.plan.specs.declared.Plan.{Plan}
 use Rattle.plan.specs.declared.Stand.{Stand}
+use Rattle.plan.specs.declared.Stop.{Stop}
+use Rattle.plan.specs.declared.Stop.TheVariants.{Found, Full}
 use Rattle.plan.specs.declared.Explored.{Explored}
 
 -- at a letter of a row that is to be tried
 abbrev pub going_at : ℕ → ℕ → ℕ → Stand
-going_at count row letter = record { count = count; row = row; letter = letter; stopped = false; accepted = false }
+going_at count row letter = record { count = count; row = row; letter = letter }
 
 -- the letters between have their bits at 0
 pub record Skips (fresh letter next : ℕ) : Type 0 where
@@ -23,7 +25,6 @@ pub data After (plan : Plan) (i a : ℕ) : ℕ → ℕ → Type 0 where
 -- from s to the place after it, with so many rows
 pub record Moved (plan : Plan) (s : Stand) (count : ℕ) (to : Stand) : Type 0 where
   pub count_is : to.count ≡ count
-  pub goes_on : to.stopped ≡ false
   pub place : After plan s.row s.letter to.row to.letter
 
 -- how far it has come
@@ -32,11 +33,17 @@ place s = s.row * most_letters + s.letter
 
 -- ---- the ends
 
--- by whether exploring has stopped, and whether a state was accepted
-abbrev pub explored_by : Bool → Bool → Stand → Explored
-explored_by false b s = Explored.All s.count
-explored_by true true s = Explored.Found s.count s.row s.letter
-explored_by true false s = Explored.NoRoom s.count
+-- where exploring stands at its end, whether or not it stopped
+abbrev pub stand_of : Result Stand Stop → Stand
+stand_of (Ok s) = s
+stand_of (Err (Found s)) = s
+stand_of (Err (Full s)) = s
+
+-- by whether exploring has stopped, and why
+abbrev pub explored_by : Result Stand Stop → Explored
+explored_by (Ok s) = Explored.All s.count
+explored_by (Err (Found s)) = Explored.Found s.count s.row s.letter
+explored_by (Err (Full s)) = Explored.NoRoom s.count
 
 -- ---- few rows first
 
@@ -53,7 +60,6 @@ with_rows plan rows = record {
   fresh = plan.fresh;
 }
 
--- whether exploring with few rows stopped for want of rows, and there are more
-pub record Lacks (few rows : ℕ) (s : Stand) (r : Bool) : Type 0 where
-  pub yes : r ≡ true → (s.stopped ≡ true) × (s.accepted ≡ false) × (few < rows)
-  pub no : r ≡ false → s.stopped ≡ true → s.accepted ≡ false → rows ≤ few
+-- where exploring with few rows stopped for want of rows, if there are more
+pub record Resumed (ended : Result Stand Stop) (few rows : ℕ) (more : Option Stand) : Type 0 where
+  pub says : MatchOption more ((s : Stand) → ended ≡ Err (Full s) → rows ≤ few) (λ s. (ended ≡ Err (Full s)) × (few < rows))

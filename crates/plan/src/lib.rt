@@ -1,13 +1,13 @@
 // What is fixed while the rows of a question are numbered, and where the numbering stands.
 #![tactic(auto)]
 
-ghost use Rattle.std.specs.Prelude.{◌≡◌, true, false, ◌+◌, ◌*◌, ◌^◌, ◌≤◌, ◌<◌, min, length, take};
+ghost use Rattle.std.specs.Prelude.{◌≡◌, true, false, ◌+◌, ◌*◌, ◌^◌, ◌≤◌, ◌<◌, length, take};
 ghost use Rattle.formula.specs.Truths.{truth_at};
 ghost use Rattle.step.specs.Cells.{worth_cells};
 ghost use Rattle.index.specs.Rows.{row_at};
 ghost use Rattle.plan.specs.Machine.{FreshBits};
 ghost use Rattle.plan.specs.Simulated.{PlanAsked, PlanMade};
-ghost use Rattle.plan.specs.Moves.{explored_by, Lacks, Moved, with_rows, going_at};
+ghost use Rattle.plan.specs.Moves.{explored_by, Resumed, Moved, with_rows, going_at};
 ghost use Rattle.scope.specs.Sizes.{most_atoms, most_letters, most_states};
 
 use formula::{WORDS, truth_at, truths_of};
@@ -65,9 +65,13 @@ pub struct Stand {
     pub count: usize,
     pub row: usize,
     pub letter: usize,
-    // It goes no further: the letter leads to a new state, which accepts, or else has no row left.
-    pub stopped: bool,
-    pub accepted: bool,
+}
+
+// Why exploring goes no further: the letter at which it stands leads to a new state, which accepts and has the last row, or has no row left.
+#[derive(Clone, Copy)]
+pub enum Stop {
+    Found(Stand),
+    Full(Stand),
 }
 
 impl Stand {
@@ -75,26 +79,7 @@ impl Stand {
     pub fn going(count: usize, row: usize, letter: usize) -> Stand
         ensures { result ≡ going_at count row letter }
     {
-        Stand {
-            count,
-            row,
-            letter,
-            stopped: false,
-            accepted: false,
-        }
-    }
-
-    // It ends where it stands, with so many rows.
-    pub fn ending(self, count: usize, accepted: bool) -> Stand
-        ensures { result ≡ record { count = count; row = self.row; letter = self.letter; stopped = true; accepted = accepted } }
-    {
-        Stand {
-            count,
-            row: self.row,
-            letter: self.letter,
-            stopped: true,
-            accepted,
-        }
+        Stand { count, row, letter }
     }
 
     // After the letter at which it stands, with so many rows: the next letter to try, which has the lowest bit of those that are left, or the
@@ -113,37 +98,18 @@ impl Stand {
             self.letter + 1 + u64::trailing_zeros(left) as usize,
         )
     }
+}
 
-    // Whether it stopped for want of rows, and there are more.
-    pub fn lacks(self, few: usize, rows: usize) -> bool
-        ensures { Lacks few rows self result }
-    {
-        if self.stopped {
-            if self.accepted {
-                return false;
-            }
-            return few < rows;
+// Where exploring goes on, if it stopped for want of so few rows and there are more.
+pub fn resumed(ended: Result<Stand, Stop>, few: usize, rows: usize) -> Option<Stand>
+    ensures { Resumed ended few rows result }
+{
+    if let Err(Stop::Full(s)) = ended {
+        if few < rows {
+            return Some(s);
         }
-        false
     }
-
-    // As the answer, once exploring has ended.
-    pub fn explored(self) -> Explored
-        ensures { result ≡ explored_by self.stopped self.accepted self }
-    {
-        let states = self.count;
-        if self.stopped {
-            if self.accepted {
-                return Explored::Found {
-                    states,
-                    row: self.row,
-                    letter: self.letter,
-                };
-            }
-            return Explored::NoRoom { states };
-        }
-        Explored::All { states }
-    }
+    None
 }
 
 // How exploring ended: at a state that accepts, to which the letter of the row leads; with a row for every reachable state; or for want of rows.
@@ -161,6 +127,23 @@ pub enum Explored {
     NoRoom {
         states: usize,
     },
+}
+
+impl Explored {
+    // Once exploring has ended: where it did not stop, every row is expanded.
+    pub fn of(ended: Result<Stand, Stop>) -> Explored
+        ensures { result ≡ explored_by ended }
+    {
+        match ended {
+            Ok(s) => Explored::All { states: s.count },
+            Err(Stop::Found(s)) => Explored::Found {
+                states: s.count,
+                row: s.row,
+                letter: s.letter,
+            },
+            Err(Stop::Full(s)) => Explored::NoRoom { states: s.count },
+        }
+    }
 }
 
 // Whether a letter has the sums, which are handed over, of an earlier one.
@@ -182,35 +165,32 @@ fn fresh_letters(sums: &[i32; SUMS], letters: usize) -> u64
 {
     let mut last = [0usize; Question::LETTERS];
     let mut fresh: u64 = 0;
-    let mut letter = 0;
-    while letter < letters {
+    for letter in 0..letters {
         let row = load_row(sums, Question::ATOMS, letter);
         let place = bucket(&row, Question::LETTERS);
         if !repeats(sums, last[place], letter, &row) {
             fresh += 1 << letter;
         }
         last[place] = letter;
-        letter += 1;
     }
     fresh
 }
 
 // The plan of an accepted question in so many rows, where its atoms' kinds and its letters' sums are given.
 pub fn plan_of(
-    question: Question,
+    question: &Question,
     atoms: Kinds,
     sums: &[i32; SUMS],
     rows: usize,
     noting: bool,
     testing: bool,
 ) -> Plan
-    requires { PlanAsked question atoms sums.now }
-    ensures { PlanMade question sums.now rows noting testing result }
+    requires { PlanAsked question.now atoms sums.now }
+    ensures { PlanMade question.now sums.now rows noting testing result }
 {
-    let codes = question.codes;
     let kinds = atoms.kinds;
-    let letters = letters(question.n as usize);
-    let truths = truths_of(&codes);
+    let letters = letters(usize::from(question.n));
+    let truths = truths_of(&question.codes);
     Plan {
         kinds,
         width: atoms.m,
@@ -221,10 +201,4 @@ pub fn plan_of(
         truths,
         fresh: fresh_letters(sums, letters),
     }
-}
-
-pub fn least(a: usize, b: usize) -> usize
-    ensures { result ≡ min a b }
-{
-    if a < b { a } else { b }
 }

@@ -1,13 +1,11 @@
 -- An outcome of each public call: its answer and what each lent buffer holds afterwards, as the call's own contract has it. `Post` is read off the
 -- `ensures` of the code, so that nothing is said here a second time.
-use Rattle.std.specs.Prelude.{List, [], ℕ, ℤ}
+use Rattle.std.specs.Prelude.{List, [], ℕ, ℤ, Result, Bool}
 use Rattle.std.specs.Borrow.{Bor, MutBor}
+use Rattle.scope.specs.declared.Refusal.{Refusal}
+use Rattle.scope.specs.declared.Record.{Record}
 use Rattle.scope.specs.declared.Question.{Question}
 use Rattle.scope.specs.declared.Limits.{Limits}
-use Rattle.scope.specs.declared.Held.{Held}
-use Rattle.scope.specs.declared.RecordAnswer.{RecordAnswer}
-use Rattle.scope.specs.declared.TruthAnswer.{TruthAnswer}
-use Rattle.scope.specs.declared.SpellAnswer.{SpellAnswer}
 use Rattle.scope.specs.Writing.{Wrote}
 use Rattle.scope.specs.Words.{Word}
 use Rattle.scope.specs.Deciding.{Decided}
@@ -46,25 +44,25 @@ LimitsOutcome r = limits.Post tt tt r tt
 
 -- ---- calls that lend nothing to be written
 
-abbrev pub RecordOutcome : List ℕ → ℕ → RecordAnswer → Type 0
+abbrev pub RecordOutcome : List ℕ → ℕ → Result Record Refusal → Type 0
 RecordOutcome bytes at r = record-at.Post ([], tt) (lent bytes, (at, tt)) r (lent bytes, (at, tt))
 
-abbrev pub ReadOutcome : List ℕ → Held → Type 0
+abbrev pub ReadOutcome : List ℕ → Result Question Refusal → Type 0
 ReadOutcome bytes r = read.Post ([], tt) (lent bytes, tt) r (lent bytes, tt)
 
-abbrev pub PartOutcome : List ℕ → ℕ → ReadPart → Type 0
+abbrev pub PartOutcome : List ℕ → ℕ → Result ReadPart Refusal → Type 0
 PartOutcome bytes at r = read-from.Post ([], tt) (lent bytes, (at, tt)) r (lent bytes, (at, tt))
 
-abbrev pub ImportOutcome : List ℕ → Import → Type 0
+abbrev pub ImportOutcome : List ℕ → Result Import Refusal → Type 0
 ImportOutcome text r = importing.Post ([], tt) (lent text, tt) r (lent text, tt)
 
-abbrev pub JudgeOutcome : List ℕ → List ℕ → TruthAnswer → Type 0
+abbrev pub JudgeOutcome : List ℕ → List ℕ → Result Bool Refusal → Type 0
 JudgeOutcome bytes values r = judge.Post ([], ([], tt)) (lent bytes, (lent values, tt)) r (lent bytes, (lent values, tt))
 
-abbrev pub RunOutcome : ℕ → List ℕ → Word → TruthAnswer → Type 0
+abbrev pub RunOutcome : ℕ → List ℕ → Word → Result Bool Refusal → Type 0
 RunOutcome n cells word r = run.Post ([], ([], tt)) (n, (lent cells, (lent word, tt))) r (n, (lent cells, (lent word, tt)))
 
-abbrev pub SpellOutcome : ℕ → ℕ → Word → SpellAnswer → Type 0
+abbrev pub SpellOutcome : ℕ → ℕ → Word → Result ℕ Refusal → Type 0
 SpellOutcome n variable word r = spell.Post ([], tt) (n, (variable, (lent word, tt))) r (n, (variable, (lent word, tt)))
 
 -- the part of the caller's bytes that is handed back: where it lies counts
@@ -74,7 +72,7 @@ BodyOutcome bytes start len part = body.Post ([], tt) (bytes, (start, (len, tt))
 -- ---- calls that are lent buffers: an outcome is the answer and each buffer afterwards
 
 abbrev pub WriteOutcome : Question → List ℕ → Wrote → Type 0
-WriteOutcome q buffer o = write.Post ([], tt) (q, (lent_mut buffer, tt)) o.answer (q, (lent_mut o.buffer, tt))
+WriteOutcome q buffer o = write.Post ([], ([], tt)) (lent q, (lent_mut buffer, tt)) o.answer (lent q, (lent_mut o.buffer, tt))
 
 abbrev pub DecideOutcome : List ℕ → List ℤ → List ℕ → List ℕ → Decided → Type 0
 DecideOutcome bytes keys path word o =

@@ -1,9 +1,8 @@
 -- Demand 3, sentence by sentence, of any outcome that the contracts allow, in the words of the tree that the bytes are.
-use Rattle.std.specs.Prelude.{◌≡◌, ◌↔◌, ◌≢◌, true, List, ℕ, ◌*◌, ◌≤◌, ◌<◌, length, take, ℤ}
+use Rattle.std.specs.Prelude.{◌≡◌, ◌↔◌, ◌≢◌, true, List, ℕ, ◌*◌, ◌≤◌, ◌<◌, length, take, ℤ, Ok, Err, Result, Bool}
 use Rattle.std.proofs.Common.{sym, ap, ◌∙◌, le-div_iff_mul-le, arith}
+use Rattle.scope.specs.declared.Building.{Building}
 use Rattle.scope.specs.declared.Refusal.{Refusal}
-use Rattle.scope.specs.declared.TruthAnswer.{TruthAnswer}
-use Rattle.scope.specs.declared.BuildAnswer.{BuildAnswer}
 use Rattle.scope.specs.Sizes.{most_states}
 use Rattle.scope.specs.Question.{atom_count}
 use Rattle.scope.specs.Words.{Word, letters, spelled, Over}
@@ -11,7 +10,7 @@ use Rattle.scope.specs.Tree.{true_for, IsQuestion}
 use Rattle.scope.specs.Bound.{bound}
 use Rattle.scope.specs.Numbering.{machine_of}
 use Rattle.scope.specs.Building.{table_width, build_room, Built}
-use Rattle.scope.specs.Running.{truth_of, ran}
+use Rattle.scope.specs.Running.{ran}
 use Rattle.theory.specs.Wire.Octets.{Octets}
 use Rattle.theory.specs.Trees.Parsed.{question_read}
 use Rattle.theory.specs.Words.Spelling.{word_of_values}
@@ -43,51 +42,51 @@ module _ (bytes : List ℕ) (keys : List ℤ) (table : List ℕ) {o : Built} (ou
 
   module _ (octets : Octets bytes) where
     -- the table is built exactly of a question's bytes, where the rows lent are at least its reachable states, whose number is the answer
-    pub built_exactly : (states : ℕ) → (o.answer ≡ BuildAnswer.Built states) ↔ ((q : IsQuestion bytes) × (StatesAre (machine_of (held_in q)) states × (states ≤ rows_for q keys table)))
+    pub built_exactly : (states : ℕ) → (o.answer ≡ Ok (Building.Built states)) ↔ ((q : IsQuestion bytes) × (StatesAre (machine_of (held_in q)) states × (states ≤ rows_for q keys table)))
     built_exactly states = rw out.answer (questions.built_exactly bytes keys table octets states)
 
     -- else 7
     pub unbuilt_exactly : (states : ℕ)
-        → (o.answer ≡ BuildAnswer.NoRoom states) ↔ ((q : IsQuestion bytes) × ((states ≡ rows_for q keys table) × ¬ AtMost (machine_of (held_in q)) (rows_for q keys table)))
+        → (o.answer ≡ Ok (Building.NoRoom states)) ↔ ((q : IsQuestion bytes) × ((states ≡ rows_for q keys table) × ¬ AtMost (machine_of (held_in q)) (rows_for q keys table)))
     unbuilt_exactly states = rw out.answer (questions.unbuilt_exactly bytes keys table octets states)
 
   -- ---- of a question's bytes, where R = rows_for q keys table rows are lent
 
   module _ (q : IsQuestion bytes) where
     -- "For every accepted question, the table is built exactly if the rows lent, as 01 counts them, are at least the reachable states;"
-    pub built_room : ((states : ℕ) × (o.answer ≡ BuildAnswer.Built states)) ↔ AtMost (machine_of (held_in q)) (rows_for q keys table)
+    pub built_room : ((states : ℕ) × (o.answer ≡ Ok (Building.Built states))) ↔ AtMost (machine_of (held_in q)) (rows_for q keys table)
     built_room = rw out.answer (building.held_built_exactly bytes keys table (held_in q) (question_read bytes q))
 
     -- "rows equal to 01's bound, where that is at most 65,535, are always enough." (R is never more than 65,535)
-    pub bound_builds : bound (held_in q) ≤ rows_for q keys table → (states : ℕ) × (o.answer ≡ BuildAnswer.Built states)
+    pub bound_builds : bound (held_in q) ≤ rows_for q keys table → (states : ℕ) × (o.answer ≡ Ok (Building.Built states))
     bound_builds h = rw out.answer (building.bound_builds bytes keys table (held_in q) (question_read bytes q) h)
 
     -- in cells
     pub bound_cells : bound (held_in q) ≤ most_states → bound (held_in q) * atom_count (held_in q) ≤ length keys → bound (held_in q) * table_width q.n ≤ length table
-        → (states : ℕ) × (o.answer ≡ BuildAnswer.Built states)
+        → (states : ℕ) × (o.answer ≡ Ok (Building.Built states))
     bound_cells few k t = bound_builds (build_rows_lent q (bound (held_in q)) few keys table k t)
 
     -- "The table alone, run without the question on any word of its letters, short or long, says yes exactly if the naturals that the word
     -- spells satisfy the question."
-    module _ (states : ℕ) (is_built : o.answer ≡ BuildAnswer.Built states) where
-      pub table_is : (w : Word) → Over (letters q.n) w → {t : TruthAnswer} → RunOutcome q.n (table_in q.n states o.table) w t
-          → t ≡ truth_of (true_for q.tree (spelled q.n w))
+    module _ (states : ℕ) (is_built : o.answer ≡ Ok (Building.Built states)) where
+      pub table_is : (w : Word) → Over (letters q.n) w → {t : Result Bool Refusal} → RunOutcome q.n (table_in q.n states o.table) w t
+          → t ≡ Ok (true_for q.tree (spelled q.n w))
       table_is w over run =
           run ∙ ap (λ (l : List ℕ). ran q.n (table_in q.n states l) w) out.table
           ∙ table_answers bytes keys table q states (sym out.answer ∙ is_built) w over
 
-      pub table_says : (w : Word) → Over (letters q.n) w → {t : TruthAnswer} → RunOutcome q.n (table_in q.n states o.table) w t
-          → (t ≡ TruthAnswer.Yes) ↔ (true_for q.tree (spelled q.n w) ≡ true)
+      pub table_says : (w : Word) → Over (letters q.n) w → {t : Result Bool Refusal} → RunOutcome q.n (table_in q.n states o.table) w t
+          → (t ≡ (Ok true)) ↔ (true_for q.tree (spelled q.n w) ≡ true)
       table_says w over run = rw (table_is w over run) (truth_yes (true_for q.tree (spelled q.n w)))
 
       -- it is never refused
-      pub table_taken : (w : Word) → Over (letters q.n) w → {t : TruthAnswer} → RunOutcome q.n (table_in q.n states o.table) w t → (ρ : Refusal) → t ≢ TruthAnswer.Refused ρ
+      pub table_taken : (w : Word) → Over (letters q.n) w → {t : Result Bool Refusal} → RunOutcome q.n (table_in q.n states o.table) w t → (ρ : Refusal) → t ≢ Err ρ
       table_taken w over run ρ e = truth_not_refused (true_for q.tree (spelled q.n w)) ρ (sym (table_is w over run) ∙ e)
 
       -- and judging agrees: the word of 40 letters spells the values
-      pub table_judged : (values : List ℕ) → Taken q.n values → {t j : TruthAnswer} → RunOutcome q.n (table_in q.n states o.table) (word_of_values 40 values) t
+      pub table_judged : (values : List ℕ) → Taken q.n values → {t j : Result Bool Refusal} → RunOutcome q.n (table_in q.n states o.table) (word_of_values 40 values) t
           → JudgeOutcome bytes values j → j ≡ t
       table_judged values taken run judge =
           judge_is bytes values q taken judge
-          ∙ ap (λ (xs : List ℕ). truth_of (true_for q.tree xs)) (sym (word_spells (held_in q) values taken))
+          ∙ ap (λ (xs : List ℕ). Ok (true_for q.tree xs)) (sym (word_spells (held_in q) values taken))
           ∙ sym (table_is (word_of_values 40 values) (spelled_over (held_in q) values taken) run)

@@ -1,13 +1,14 @@
 -- The calls as C and Rust link them (`pelohuaki_c`): an outcome of each, as its own contract has it; any two coincide; and what the verdict cell of
 -- `told` says, back to the demands.
-use Rattle.std.specs.Prelude.{◌≡◌, refl, ◌↔◌, List, [], ◌∷◌, ℕ, ◌≤◌, length, get_or, ℤ}
+use Rattle.std.specs.Prelude.{◌≡◌, refl, ◌↔◌, List, [], ◌∷◌, ℕ, ◌≤◌, length, get_or, ℤ, Ok, Err, Result}
 use Rattle.std.proofs.Common.{sym, ap, ◌∙◌, arith}
 use mathlib.Core.Logic.Iff
 use Rattle.std.proofs.lemmas.List.Edits.{sets}
 use base.Fml.{Lft}
 use Rattle.std.specs.Borrow.{Bor, MutBor}
-use Rattle.scope.specs.declared.DecideAnswer.{DecideAnswer}
-use Rattle.scope.specs.declared.BuildAnswer.{BuildAnswer}
+use Rattle.scope.specs.declared.Refusal.{Refusal}
+use Rattle.scope.specs.declared.Decision.{Decision}
+use Rattle.scope.specs.declared.Building.{Building}
 use Rattle.scope.specs.Tree.{IsQuestion}
 use Rattle.scope.specs.Numbering.{machine_of}
 use Rattle.scope.specs.Deciding.{decided}
@@ -260,47 +261,47 @@ second_cell (x ∷ y ∷ z ∷ []) a b c d h = refl
 second_cell (x ∷ y ∷ z ∷ u ∷ l) a b c d h = refl
 
 -- 1 found, 2 never, 3 built, 0 where the call was refused
-abbrev verdict_cell : DecideAnswer → ℕ
-verdict_cell (DecideAnswer.Found states letters) = 1
-verdict_cell (DecideAnswer.Never states) = 2
-verdict_cell (DecideAnswer.NoRoom states) = 0
-verdict_cell (DecideAnswer.Short states letters) = 0
-verdict_cell (DecideAnswer.Refused r) = 0
+abbrev verdict_cell : Result Decision Refusal → ℕ
+verdict_cell (Ok (Decision.Found states letters)) = 1
+verdict_cell (Ok (Decision.Never states)) = 2
+verdict_cell (Ok (Decision.NoRoom states)) = 0
+verdict_cell (Ok (Decision.Short states letters)) = 0
+verdict_cell (Err r) = 0
 
-abbrev built_cell : BuildAnswer → ℕ
-built_cell (BuildAnswer.Built states) = 3
-built_cell (BuildAnswer.NoRoom states) = 0
-built_cell (BuildAnswer.Refused r) = 0
+abbrev built_cell : Result Building Refusal → ℕ
+built_cell (Ok (Building.Built states)) = 3
+built_cell (Ok (Building.NoRoom states)) = 0
+built_cell (Err r) = 0
 
-decide_cell : (l : List ℕ) → 2 ≤ length l → (a : DecideAnswer) → get_or (sets l 0 (decide_cells a)) 1 0 ≡ verdict_cell a
-decide_cell l h (DecideAnswer.Found states letters) = second_cell l 0 1 states letters h
-decide_cell l h (DecideAnswer.Never states) = second_cell l 0 2 states 0 h
-decide_cell l h (DecideAnswer.NoRoom states) = second_cell l 0 0 states 0 h
-decide_cell l h (DecideAnswer.Short states letters) = second_cell l 0 0 states letters h
-decide_cell l h (DecideAnswer.Refused r) = second_cell l r.place 0 0 0 h
+decide_cell : (l : List ℕ) → 2 ≤ length l → (a : Result Decision Refusal) → get_or (sets l 0 (decide_cells a)) 1 0 ≡ verdict_cell a
+decide_cell l h (Ok (Decision.Found states letters)) = second_cell l 0 1 states letters h
+decide_cell l h (Ok (Decision.Never states)) = second_cell l 0 2 states 0 h
+decide_cell l h (Ok (Decision.NoRoom states)) = second_cell l 0 0 states 0 h
+decide_cell l h (Ok (Decision.Short states letters)) = second_cell l 0 0 states letters h
+decide_cell l h (Err r) = second_cell l r.place 0 0 0 h
 
-build_cell : (l : List ℕ) → 2 ≤ length l → (a : BuildAnswer) → get_or (sets l 0 (build_cells a)) 1 0 ≡ built_cell a
-build_cell l h (BuildAnswer.Built states) = second_cell l 0 3 states 0 h
-build_cell l h (BuildAnswer.NoRoom states) = second_cell l 0 0 states 0 h
-build_cell l h (BuildAnswer.Refused r) = second_cell l r.place 0 0 0 h
+build_cell : (l : List ℕ) → 2 ≤ length l → (a : Result Building Refusal) → get_or (sets l 0 (build_cells a)) 1 0 ≡ built_cell a
+build_cell l h (Ok (Building.Built states)) = second_cell l 0 3 states 0 h
+build_cell l h (Ok (Building.NoRoom states)) = second_cell l 0 0 states 0 h
+build_cell l h (Err r) = second_cell l r.place 0 0 0 h
 
-is_never : (a : DecideAnswer) → verdict_cell a ≡ 2 → (states : ℕ) × (a ≡ DecideAnswer.Never states)
-is_never (DecideAnswer.Found states letters) e = absurd (omega (arith, e))
-is_never (DecideAnswer.Never states) e = (states, refl)
-is_never (DecideAnswer.NoRoom states) e = absurd (omega (arith, e))
-is_never (DecideAnswer.Short states letters) e = absurd (omega (arith, e))
-is_never (DecideAnswer.Refused r) e = absurd (omega (arith, e))
+is_never : (a : Result Decision Refusal) → verdict_cell a ≡ 2 → (states : ℕ) × (a ≡ Ok (Decision.Never states))
+is_never (Ok (Decision.Found states letters)) e = absurd (omega (arith, e))
+is_never (Ok (Decision.Never states)) e = (states, refl)
+is_never (Ok (Decision.NoRoom states)) e = absurd (omega (arith, e))
+is_never (Ok (Decision.Short states letters)) e = absurd (omega (arith, e))
+is_never (Err r) e = absurd (omega (arith, e))
 
-is_built : (a : BuildAnswer) → built_cell a ≡ 3 → (states : ℕ) × (a ≡ BuildAnswer.Built states)
-is_built (BuildAnswer.Built states) e = (states, refl)
-is_built (BuildAnswer.NoRoom states) e = absurd (omega (arith, e))
-is_built (BuildAnswer.Refused r) e = absurd (omega (arith, e))
+is_built : (a : Result Building Refusal) → built_cell a ≡ 3 → (states : ℕ) × (a ≡ Ok (Building.Built states))
+is_built (Ok (Building.Built states)) e = (states, refl)
+is_built (Ok (Building.NoRoom states)) e = absurd (omega (arith, e))
+is_built (Err r) e = absurd (omega (arith, e))
 
 -- a 2 is never: the bytes are a question's, its reachable states have rows, and no naturals satisfy it
 pub never_exported : (bytes : List ℕ) (keys : List ℤ) (path word told : List ℕ) → Octets bytes → 2 ≤ length told → {o : DecidedCells} → DecideExported bytes keys path word told o
     → (get_or o.told 1 0 ≡ 2) ↔ Guarded bytes keys path
 never_exported bytes keys path word told octets room out =
-    let a : DecideAnswer = (decided bytes keys path word).answer in
+    let a : Result Decision Refusal = (decided bytes keys path word).answer in
     let cell = ap (λ (l : List ℕ). get_or l 1 0) out.told ∙ decide_cell told room a in
     Iff.trans (λ e. is_never a (sym cell ∙ e), λ (states, e). cell ∙ ap verdict_cell e) (never_guarded bytes keys path word octets)
 
@@ -308,6 +309,6 @@ never_exported bytes keys path word told octets room out =
 pub built_exported : (bytes : List ℕ) (keys : List ℤ) (table told : List ℕ) → Octets bytes → 2 ≤ length told → {o : BuiltCells} → BuildExported bytes keys table told o
     → (get_or o.told 1 0 ≡ 3) ↔ ((states : ℕ) × ((q : IsQuestion bytes) × (StatesAre (machine_of (held_in q)) states × (states ≤ rows_for q keys table))))
 built_exported bytes keys table told octets room out =
-    let a : BuildAnswer = (built bytes keys table).answer in
+    let a : Result Building Refusal = (built bytes keys table).answer in
     let cell = ap (λ (l : List ℕ). get_or l 1 0) out.told ∙ build_cell told room a in
     (λ e. let s = is_built a (sym cell ∙ e) in (s.0, (built_exactly bytes keys table octets s.0).0 s.1), λ (states, q). cell ∙ ap built_cell ((built_exactly bytes keys table octets states).1 q))

@@ -1,14 +1,12 @@
 -- Demand 1, what is left after a refusal, of any outcome that the contracts allow.
-use Rattle.std.specs.Prelude.{◌≡◌, ◌≢◌, List, ℕ, ◌*◌, ◌≤◌, length, get_or, take, ℤ}
+use Rattle.std.specs.Prelude.{◌≡◌, ◌≢◌, List, ℕ, ◌*◌, ◌≤◌, length, get_or, take, ℤ, Ok, Err, Result, replicate}
 use Rattle.std.proofs.Common.{sym, ◌∙◌, arith}
 use Rattle.std.proofs.Math.Path.{ap}
+use Rattle.scope.specs.declared.Decision.{Decision}
+use Rattle.scope.specs.declared.Building.{Building}
 use Rattle.scope.specs.declared.Question.{Question}
 use Rattle.scope.specs.declared.Refusal.{Refusal}
-use Rattle.scope.specs.declared.ReadAnswer.{ReadAnswer}
-use Rattle.scope.specs.declared.WriteAnswer.{WriteAnswer}
-use Rattle.scope.specs.declared.DecideAnswer.{DecideAnswer}
-use Rattle.scope.specs.declared.BuildAnswer.{BuildAnswer}
-use Rattle.scope.specs.Question.{atom_count}
+use Rattle.scope.specs.Question.{atom_count, empty_question}
 use Rattle.scope.specs.Writing.{Wrote}
 use Rattle.scope.specs.Tree.{true_for, IsQuestion}
 use Rattle.scope.specs.Deciding.{Decided}
@@ -22,11 +20,14 @@ use Rattle.theory.specs.Calls.Areas.{states_told, built_told, Filled, key_cell, 
 use Rattle.theory.specs.Calls.Lengths.{decided_keys_length, decided_path_length, decided_word_length, built_keys_length, built_table_length, wrote_length}
 use Rattle.theory.specs.Wire.Buffers.{wrote_refused}
 use Rattle.theory.specs.Calls.Questions.{held_in, room_for, short_as, no_room_as, rows_for, unbuilt_as}
-use Rattle.smtlib.specs.Imported.{refusing, imported}
-use Rattle.smtlib.specs.Cases.{refused_import}
+use Rattle.smtlib.specs.Imported.{imported}
+use Rattle.smtlib.specs.Cases.{ImportRefused}
 use Rattle.importing.specs.declared.answer.Import.{Import}
-use Rattle.importing.specs.Given.{no_bounds, bounds_if, import_given}
+use Rattle.importing.specs.Given.{import_given, given_is, question_given}
 use Rattle.lent.specs.Lent.{part_into}
+use Rattle.scope.specs.Wire.{question_held}
+use Rattle.pelohuaki_c.specs.Bounds.{bounds_told}
+use Rattle.scope.specs.Sizes.{most_variables}
 use Rattle.promises.specs.Calls.{ImportOutcome, WriteOutcome, DecideOutcome, BuildOutcome}
 use Rattle.promises.specs.Once.{write_is, decide_is, build_is}
 use Rattle.promises.specs.Demand1.{decided_refused, built_refused, import_refused}
@@ -34,34 +35,34 @@ use Rattle.promises.specs.Exported.{ReadCells, ImportExported}
 
 -- ---- "A refused question changes no lent cell"
 
-pub decide_unchanged : (bytes : List ℕ) (keys : List ℤ) (path word : List ℕ) {o : Decided} → DecideOutcome bytes keys path word o → (ρ : Refusal) → o.answer ≡ DecideAnswer.Refused ρ
-    → o ≡ record { answer = DecideAnswer.Refused ρ; keys = keys; path = path; word = word }
+pub decide_unchanged : (bytes : List ℕ) (keys : List ℤ) (path word : List ℕ) {o : Decided} → DecideOutcome bytes keys path word o → (ρ : Refusal) → o.answer ≡ Err ρ
+    → o ≡ record { answer = Err ρ; keys = keys; path = path; word = word }
 decide_unchanged bytes keys path word out ρ e =
     decide_is bytes keys path word out ∙ deciding.decide_refused_unchanged bytes keys path word ρ ((decided_refused bytes keys path word ρ).0 (sym out.answer ∙ e))
 
-pub build_unchanged : (bytes : List ℕ) (keys : List ℤ) (table : List ℕ) {o : Built} → BuildOutcome bytes keys table o → (ρ : Refusal) → o.answer ≡ BuildAnswer.Refused ρ
-    → o ≡ record { answer = BuildAnswer.Refused ρ; keys = keys; table = table }
+pub build_unchanged : (bytes : List ℕ) (keys : List ℤ) (table : List ℕ) {o : Built} → BuildOutcome bytes keys table o → (ρ : Refusal) → o.answer ≡ Err ρ
+    → o ≡ record { answer = Err ρ; keys = keys; table = table }
 build_unchanged bytes keys table out ρ e =
     build_is bytes keys table out ∙ building.build_refused_unchanged bytes keys table ρ ((built_refused bytes keys table ρ).0 (sym out.answer ∙ e))
 
-pub write_unchanged : (q : Question) (buffer : List ℕ) {o : Wrote} → WriteOutcome q buffer o → (ρ : Refusal) → o.answer ≡ WriteAnswer.Refused ρ → o.buffer ≡ buffer
+pub write_unchanged : (q : Question) (buffer : List ℕ) {o : Wrote} → WriteOutcome q buffer o → (ρ : Refusal) → o.answer ≡ Err ρ → o.buffer ≡ buffer
 write_unchanged q buffer out ρ e = out.buffer ∙ wrote_refused q buffer ρ (sym out.answer ∙ e)
 
--- a text that is refused: the empty question, and no names
-pub import_nothing : (text : List ℕ) {r : Import} → ImportOutcome text r → (ρ : Refusal) → r.held.answer ≡ ReadAnswer.Refused ρ → r ≡ record { held = refusing ρ; names = no_bounds }
-unfolding import_given
-import_nothing text out ρ e =
-    let h : imported text ≡ refusing ρ = refused_import text ρ ((import_refused text out ρ).0 e) in
-    out ∙ (λ i. record { held = h i; names = bounds_if (h i).answer text })
+-- a text that is refused: its refusal, and what is told beside it are the empty question and no names
+pub import_nothing : (text : List ℕ) {r : Result Import Refusal} → ImportOutcome text r → (ρ : Refusal) → ImportRefused text ρ
+    → (r ≡ Err ρ) × (question_held (question_given r) ≡ empty_question) × (bounds_told r ≡ replicate (2 * most_variables) 0)
+import_nothing text {r} out ρ b =
+    let e : r ≡ Err ρ = (import_refused text out ρ).1 b in
+    (e, ap (λ (s : Result Import Refusal). question_held (question_given s)) e, ap bounds_told e)
 
 -- and the parts that are lent to the exported call are as they were
 module _ (text codes : List ℕ) (coefficients constants : List ℤ) (told : List ℕ) {o : ReadCells} (out : ImportExported text codes coefficients constants told o) where
-  pub import_unchanged : (ρ : Refusal) → (imported text).answer ≡ ReadAnswer.Refused ρ → (o.codes ≡ codes) × (o.coefficients ≡ coefficients) × (o.constants ≡ constants)
+  pub import_unchanged : (ρ : Refusal) → imported text ≡ Err ρ → (o.codes ≡ codes) × (o.coefficients ≡ coefficients) × (o.constants ≡ constants)
   unfolding import_given
   import_unchanged ρ e = (
-    out.parts.codes ∙ ap (λ (a : ReadAnswer). part_into a (imported text).question.codes codes) e,
-    out.parts.coefficients ∙ ap (λ (a : ReadAnswer). part_into a (imported text).question.coefficients coefficients) e,
-    out.parts.constants ∙ ap (λ (a : ReadAnswer). part_into a (imported text).question.constants constants) e,
+    out.parts.codes ∙ ap (λ (a : Result Question Refusal). part_into a (λ (q : Question). q.codes) codes) (given_is (imported text) text ∙ e),
+    out.parts.coefficients ∙ ap (λ (a : Result Question Refusal). part_into a (λ (q : Question). q.coefficients) coefficients) (given_is (imported text) text ∙ e),
+    out.parts.constants ∙ ap (λ (a : Result Question Refusal). part_into a (λ (q : Question). q.constants) constants) (given_is (imported text) text ∙ e),
   )
 
 -- ---- "for every other refusal 01 fixes what is left" (judging, running and spelling are lent nothing that they could write)
@@ -81,11 +82,11 @@ module _ (bytes : List ℕ) (keys : List ℤ) (path word : List ℕ) (q : IsQues
   })
 
   -- found alone writes a word
-  word_as_it_was : ((s k : ℕ) → o.answer ≢ DecideAnswer.Found s k) → o.word ≡ word
+  word_as_it_was : ((s k : ℕ) → o.answer ≢ Ok (Decision.Found s k)) → o.word ≡ word
   word_as_it_was n = out.word ∙ deciding.word_kept bytes keys path word (held_in q) (question_read bytes q) (λ s k y. n s k (out.answer ∙ y))
 
   -- 7: R as the states, rows 0 to R - 1 filled, the word unchanged
-  pub decide_no_room_left : (states : ℕ) → o.answer ≡ DecideAnswer.NoRoom states
+  pub decide_no_room_left : (states : ℕ) → o.answer ≡ Ok (Decision.NoRoom states)
       → (states ≡ room_for q keys path) × RowsFilled (held_in q) (room_for q keys path) states keys o.keys path o.path × (o.word ≡ word)
   decide_no_room_left states e = (
     ((no_room_as bytes keys path word q states).0 (sym out.answer ∙ e)).states_are,
@@ -94,7 +95,7 @@ module _ (bytes : List ℕ) (keys : List ℤ) (path word : List ℕ) (q : IsQues
   )
 
   -- 8: states w + 1 and rows as for found, the word unchanged
-  pub decide_short_left : (states letters : ℕ) → o.answer ≡ DecideAnswer.Short states letters
+  pub decide_short_left : (states letters : ℕ) → o.answer ≡ Ok (Decision.Short states letters)
       → RowFound (held_in q) (true_for q.tree) (room_for q keys path) states letters × RowsFilled (held_in q) (room_for q keys path) states keys o.keys path o.path × (o.word ≡ word)
   decide_short_left states letters e = (
     ((short_as bytes keys path word q states letters).0 (sym out.answer ∙ e)).0,
@@ -103,7 +104,7 @@ module _ (bytes : List ℕ) (keys : List ℤ) (path word : List ℕ) (q : IsQues
   )
 
   -- and never leaves the word too
-  pub decide_never_left : (states : ℕ) → o.answer ≡ DecideAnswer.Never states → RowsFilled (held_in q) (room_for q keys path) states keys o.keys path o.path × (o.word ≡ word)
+  pub decide_never_left : (states : ℕ) → o.answer ≡ Ok (Decision.Never states) → RowsFilled (held_in q) (room_for q keys path) states keys o.keys path o.path × (o.word ≡ word)
   decide_never_left states e = (rw e at decide_rows, word_as_it_was (λ s k y. let z : ◌≡◌ {A = ℕ} 0 1 = cc in omega arith))
 
 module _ (bytes : List ℕ) (keys : List ℤ) (table : List ℕ) (q : IsQuestion bytes) {o : Built} (out : BuildOutcome bytes keys table o) where
@@ -111,7 +112,7 @@ module _ (bytes : List ℕ) (keys : List ℤ) (table : List ℕ) (q : IsQuestion
   build_rows = rw (build_is bytes keys table out) (built_keys bytes keys table (held_in q) (question_read bytes q))
 
   -- 7: R as the states, key rows 0 to R - 1 filled, the table unchanged
-  pub build_no_room_left : (states : ℕ) → o.answer ≡ BuildAnswer.NoRoom states
+  pub build_no_room_left : (states : ℕ) → o.answer ≡ Ok (Building.NoRoom states)
       → (states ≡ rows_for q keys table) × Filled states (atom_count (held_in q)) (key_cell (held_in q) (rows_for q keys table)) keys o.keys × (o.table ≡ table)
   build_no_room_left states e =
       let x = sym out.answer ∙ e in (
@@ -120,7 +121,7 @@ module _ (bytes : List ℕ) (keys : List ℤ) (table : List ℕ) (q : IsQuestion
         out.table ∙ building.table_kept bytes keys table (held_in q) (question_read bytes q) states x,
       )
 
-  pub build_built_left : (states : ℕ) → o.answer ≡ BuildAnswer.Built states
+  pub build_built_left : (states : ℕ) → o.answer ≡ Ok (Building.Built states)
       → (take (states * table_width q.n) o.table ≡ table_of (held_in q) (rows_for q keys table))
       × ((i a : ℕ) → states * table_width q.n ≤ i → get_or o.table i a ≡ get_or table i a)
   build_built_left states e =

@@ -1,13 +1,11 @@
 -- Each contract determines the answer and each lent cell afterwards: any two outcomes that it allows coincide.
-use Rattle.std.specs.Prelude.{◌≡◌, List, ℕ, ℤ}
+use Rattle.std.specs.Prelude.{◌≡◌, List, ℕ, ℤ, Result, Bool}
 use Rattle.std.proofs.Common.{sym, ◌∙◌}
 use Rattle.std.specs.Borrow.{Bor}
+use Rattle.scope.specs.declared.Refusal.{Refusal}
+use Rattle.scope.specs.declared.Record.{Record}
 use Rattle.scope.specs.declared.Question.{Question}
 use Rattle.scope.specs.declared.Limits.{Limits}
-use Rattle.scope.specs.declared.Held.{Held}
-use Rattle.scope.specs.declared.RecordAnswer.{RecordAnswer}
-use Rattle.scope.specs.declared.TruthAnswer.{TruthAnswer}
-use Rattle.scope.specs.declared.SpellAnswer.{SpellAnswer}
 use Rattle.scope.specs.Writing.{Wrote, wrote}
 use Rattle.scope.specs.Words.{Word}
 use Rattle.scope.specs.Deciding.{Decided, decided}
@@ -35,7 +33,7 @@ empty_once a b = a ∙ sym b
 pub limits_once : {r s : Limits} → LimitsOutcome r → LimitsOutcome s → r ≡ s
 limits_once a b = a ∙ sym b
 
-pub record_once : (bytes : List ℕ) (at : ℕ) {r s : RecordAnswer} → RecordOutcome bytes at r → RecordOutcome bytes at s → r ≡ s
+pub record_once : (bytes : List ℕ) (at : ℕ) {r s : Result Record Refusal} → RecordOutcome bytes at r → RecordOutcome bytes at s → r ≡ s
 record_once bytes at a b = a ∙ sym b
 
 -- of a part of the caller's bytes, where it lies and what it holds: that is all of a reference that a program can see
@@ -46,22 +44,22 @@ pub record SamePart (p q : Bor (List ℕ)) : Type 0 where
 pub body_once : (bytes : Bor (List ℕ)) (start len : ℕ) {p q : Bor (List ℕ)} → BodyOutcome bytes start len p → BodyOutcome bytes start len q → SamePart p q
 body_once bytes start len a b = record { lies = a.lies ∙ sym b.lies; holds = a.holds ∙ sym b.holds }
 
-pub read_once : (bytes : List ℕ) {r s : Held} → ReadOutcome bytes r → ReadOutcome bytes s → r ≡ s
+pub read_once : (bytes : List ℕ) {r s : Result Question Refusal} → ReadOutcome bytes r → ReadOutcome bytes s → r ≡ s
 read_once bytes a b = a ∙ sym b
 
-pub part_once : (bytes : List ℕ) (at : ℕ) {r s : ReadPart} → PartOutcome bytes at r → PartOutcome bytes at s → r ≡ s
+pub part_once : (bytes : List ℕ) (at : ℕ) {r s : Result ReadPart Refusal} → PartOutcome bytes at r → PartOutcome bytes at s → r ≡ s
 part_once bytes at a b = a ∙ sym b
 
-pub import_once : (text : List ℕ) {r s : Import} → ImportOutcome text r → ImportOutcome text s → r ≡ s
+pub import_once : (text : List ℕ) {r s : Result Import Refusal} → ImportOutcome text r → ImportOutcome text s → r ≡ s
 import_once text a b = a ∙ sym b
 
-pub judge_once : (bytes values : List ℕ) {r s : TruthAnswer} → JudgeOutcome bytes values r → JudgeOutcome bytes values s → r ≡ s
+pub judge_once : (bytes values : List ℕ) {r s : Result Bool Refusal} → JudgeOutcome bytes values r → JudgeOutcome bytes values s → r ≡ s
 judge_once bytes values a b = a ∙ sym b
 
-pub run_once : (n : ℕ) (cells : List ℕ) (word : Word) {r s : TruthAnswer} → RunOutcome n cells word r → RunOutcome n cells word s → r ≡ s
+pub run_once : (n : ℕ) (cells : List ℕ) (word : Word) {r s : Result Bool Refusal} → RunOutcome n cells word r → RunOutcome n cells word s → r ≡ s
 run_once n cells word a b = a ∙ sym b
 
-pub spell_once : (n variable : ℕ) (word : Word) {r s : SpellAnswer} → SpellOutcome n variable word r → SpellOutcome n variable word s → r ≡ s
+pub spell_once : (n variable : ℕ) (word : Word) {r s : Result ℕ Refusal} → SpellOutcome n variable word r → SpellOutcome n variable word s → r ≡ s
 spell_once n variable word a b = a ∙ sym b
 
 pub write_once : (q : Question) (buffer : List ℕ) {o p : Wrote} → WriteOutcome q buffer o → WriteOutcome q buffer p → o ≡ p

@@ -2,23 +2,23 @@
 -- A sham is stated of questions alone, and whatever it does of other bytes.
 use Rattle.std.proofs.Math.Path.{◌≡◌, refl, sym, ap}
 use Rattle.std.proofs.Common.{◌∙◌, subst, true≢false, leb→le}
-use Rattle.std.specs.Prelude.{Bool, false, ◌&&◌, ℕ, zero, suc, ◌+◌, ◌*◌, ◌/◌, ◌%◌, ◌≤◌, ◌<◌, leb, eqb, length, take, replicate, ℤ, pos}
+use Rattle.std.specs.Prelude.{Bool, false, ◌&&◌, ℕ, zero, suc, ◌+◌, ◌*◌, ◌/◌, ◌%◌, ◌≤◌, ◌<◌, leb, eqb, length, take, replicate, ℤ, pos, Ok, Err}
 use Rattle.std.proofs.Math.Bool.{true}
 use mathlib.Core.List.{List, [], ◌∷◌}
 use native.Mathlib.Omega.{arith}
-use Rattle.scope.specs.declared.TruthAnswer.{TruthAnswer}
-use Rattle.scope.specs.declared.DecideAnswer.{DecideAnswer}
-use Rattle.scope.specs.declared.BuildAnswer.{BuildAnswer}
+use Rattle.scope.specs.declared.Rule.{Rule}
+use Rattle.scope.specs.declared.Decision.{Decision}
+use Rattle.scope.specs.declared.Building.{Building}
 use Rattle.scope.specs.Whole.{all_from}
 use Rattle.scope.specs.Question.{equation}
-use Rattle.scope.specs.Refusals.{TABLE, refusal, first_refusal}
+use Rattle.scope.specs.Refusals.{refusal, first_refusal}
 use Rattle.scope.specs.Words.{Word, letters, spelled, Over, over-[], over-∷}
 use Rattle.scope.specs.Tree.{Tree, question_bytes, true_for, IsQuestion}
 use Rattle.scope.specs.Bound.{bound}
 use Rattle.scope.specs.Numbering.{machine_of}
 use Rattle.scope.specs.Deciding.{Decided}
 use Rattle.scope.specs.Building.{Built}
-use Rattle.scope.specs.Running.{table_fits, truth_of, ran}
+use Rattle.scope.specs.Running.{table_fits, ran}
 use Rattle.scope.specs.Outcomes.{running}
 use Rattle.theory.specs.Calls.Deciding.{StatesAre, states_unique, FirstSatisfying}
 use Rattle.theory.specs.Calls.Decided.{RowFound}
@@ -48,7 +48,7 @@ EachDecided d P = (bytes : List ℕ) (keys : List ℤ) (path word : List ℕ) �
 
 abbrev pub EachBuilt : Builder → (ℕ → ℕ → List ℕ → List ℕ → Type 0) → Type 0
 EachBuilt b P =
-    (bytes : List ℕ) (keys : List ℤ) (table : List ℕ) (q : IsQuestion bytes) (states : ℕ) → (b bytes keys table).answer ≡ BuildAnswer.Built states → P q.n states table (b bytes keys table).table
+    (bytes : List ℕ) (keys : List ℤ) (table : List ℕ) (q : IsQuestion bytes) (states : ℕ) → (b bytes keys table).answer ≡ Ok (Building.Built states) → P q.n states table (b bytes keys table).table
 
 -- ---- two questions: not (x = 0), which 1 satisfies and 0 does not, and x = 1, which 1 satisfies and 3 does not
 
@@ -109,13 +109,13 @@ module _ (d : Decider) (meets : MeetsDecide d) where
   out = meets (question_bytes 1 not_nought) some_keys some_path some_letters
 
   -- one that always says no room: demand 2 fixes when it is given
-  pub not_always_no_room : ¬ EachDecided d (λ word o. (states : ℕ) × (o.answer ≡ DecideAnswer.NoRoom states))
+  pub not_always_no_room : ¬ EachDecided d (λ word o. (states : ℕ) × (o.answer ≡ Ok (Decision.NoRoom states)))
   not_always_no_room always =
       let a = always (question_bytes 1 not_nought) some_keys some_path some_letters nought in
       two.bound_is_room (question_bytes 1 not_nought) some_keys some_path some_letters out nought nought_room.0 a.0 a.1
 
   -- one that always says never: demand 2
-  pub not_always_never : ¬ EachDecided d (λ word o. (states : ℕ) × (o.answer ≡ DecideAnswer.Never states))
+  pub not_always_never : ¬ EachDecided d (λ word o. (states : ℕ) × (o.answer ≡ Ok (Decision.Never states)))
   unfolding nought
   not_always_never always =
       let a = always (question_bytes 1 not_nought) some_keys some_path some_letters nought in
@@ -146,11 +146,11 @@ no_table true true false = refl
 no_table true false c = refl
 no_table false b c = refl
 
-nine_refused : (l : List ℕ) (w : Word) → ran 1 (9 ∷ l) w ≡ TruthAnswer.Refused (refusal TABLE 0)
+nine_refused : (l : List ℕ) (w : Word) → ran 1 (9 ∷ l) w ≡ Err (refusal Rule.Table 0)
 unfolding ran first_refusal table_fits all_from
 nine_refused l w = rw (no_table (eqb (suc (length l) % 3) 0) (leb 1 (suc (length l) / 3)) (leb (suc (length l) / 3) 65535))
 
-nines_refused : (states : ℕ) (w : Word) → ran 1 (table_in 1 states some_table) w ≡ TruthAnswer.Refused (refusal TABLE 0)
+nines_refused : (states : ℕ) (w : Word) → ran 1 (table_in 1 states some_table) w ≡ Err (refusal Rule.Table 0)
 unfolding ran first_refusal table_fits
 nines_refused zero w = refl
 nines_refused (suc s) w =
@@ -164,11 +164,11 @@ module _ (b : Builder) (meets : MeetsBuild b) where
   abbrev made_out : BuildOutcome (question_bytes 1 is_one) some_keys some_table made
   made_out = meets (question_bytes 1 is_one) some_keys some_table
 
-  one_built : (states : ℕ) × (made.answer ≡ BuildAnswer.Built states)
+  one_built : (states : ℕ) × (made.answer ≡ Ok (Building.Built states))
   one_built = three.bound_builds (question_bytes 1 is_one) some_keys some_table made_out one one_room
 
   -- one that always says no room: demand 3 fixes when it is given
-  pub not_always_unbuilt : ¬ ((bytes : List ℕ) (keys : List ℤ) (table : List ℕ) → IsQuestion bytes → (states : ℕ) × ((b bytes keys table).answer ≡ BuildAnswer.NoRoom states))
+  pub not_always_unbuilt : ¬ ((bytes : List ℕ) (keys : List ℤ) (table : List ℕ) → IsQuestion bytes → (states : ℕ) × ((b bytes keys table).answer ≡ Ok (Building.NoRoom states)))
   not_always_unbuilt always =
       let e = one_built.1 in
       let f = (always (question_bytes 1 is_one) some_keys some_table one).1 in
@@ -176,11 +176,11 @@ module _ (b : Builder) (meets : MeetsBuild b) where
       omega arith
 
   -- what the table says of a word: demand 3
-  says : (w : Word) → Over (letters one.n) w → (x : Bool) → true_for one.tree (spelled one.n w) ≡ x → ran one.n (table_in one.n one_built.0 made.table) w ≡ truth_of x
-  says w over x e = three.table_is (question_bytes 1 is_one) some_keys some_table made_out one one_built.0 one_built.1 w over refl ∙ ap truth_of e
+  says : (w : Word) → Over (letters one.n) w → (x : Bool) → true_for one.tree (spelled one.n w) ≡ x → ran one.n (table_in one.n one_built.0 made.table) w ≡ Ok x
+  says w over x e = three.table_is (question_bytes 1 is_one) some_keys some_table made_out one one_built.0 one_built.1 w over refl ∙ ap Ok e
 
   -- one that builds a table that always says no: demand 3
-  pub not_always_no : ¬ EachBuilt b (λ n states table table₁. (w : Word) → Over (letters n) w → ran n (table_in n states table₁) w ≡ TruthAnswer.No)
+  pub not_always_no : ¬ EachBuilt b (λ n states table table₁. (w : Word) → Over (letters n) w → ran n (table_in n states table₁) w ≡ (Ok false))
   not_always_no always =
       let e = says (1 ∷ []) one_over.0 true one_truth.0 in
       let f = always (question_bytes 1 is_one) some_keys some_table one one_built.0 one_built.1 (1 ∷ []) one_over.0 in
@@ -194,7 +194,7 @@ module _ (b : Builder) (meets : MeetsBuild b) where
       let e = says (1 ∷ []) one_over.0 true one_truth.0 in
       let k = kept (question_bytes 1 is_one) some_keys some_table one one_built.0 one_built.1 in
       let r = nines_refused one_built.0 (1 ∷ []) in
-      let f : TruthAnswer.Refused (refusal TABLE 0) ≡ TruthAnswer.Yes = sym r ∙ ap (λ (l : List ℕ). ran 1 (table_in 1 one_built.0 l) (1 ∷ [])) (sym k) ∙ e in
+      let f : Err (refusal Rule.Table 0) ≡ (Ok true) = sym r ∙ ap (λ (l : List ℕ). ran 1 (table_in 1 one_built.0 l) (1 ∷ [])) (sym k) ∙ e in
       let z : ◌≡◌ {A = ℕ} 0 1 = cc in
       omega arith
 
@@ -211,15 +211,15 @@ module _ (b : Builder) (meets : MeetsBuild b) where
 -- ---- one with an invented state count: demand 2, through the numbering
 
 module _ (bytes : List ℕ) (keys : List ℤ) (path word : List ℕ) (q : IsQuestion bytes) {o : Decided} (out : DecideOutcome bytes keys path word o) where
-  pub found_count : {states count s k : ℕ} → o.answer ≡ DecideAnswer.Found states count → RowFound (held_in q) (true_for q.tree) (room_for q keys path) s k → k ≤ length word → states ≡ s
+  pub found_count : {states count s k : ℕ} → o.answer ≡ Ok (Decision.Found states count) → RowFound (held_in q) (true_for q.tree) (room_for q keys path) s k → k ≤ length word → states ≡ s
   found_count {states} {count} {s} {k} e f h = let d = out.answer ∙ (found_as bytes keys path word q s k).1 (f, h) in cc
 
-  pub never_count : {states s : ℕ} → o.answer ≡ DecideAnswer.Never states → StatesAre (machine_of (held_in q)) s → states ≡ s
+  pub never_count : {states s : ℕ} → o.answer ≡ Ok (Decision.Never states) → StatesAre (machine_of (held_in q)) s → states ≡ s
   never_count {states} e a = states_unique ((never_as bytes keys path word q states).0 (sym out.answer ∙ e)).states_are a
 
-  pub no_room_count : {states : ℕ} → o.answer ≡ DecideAnswer.NoRoom states → states ≡ room_for q keys path
+  pub no_room_count : {states : ℕ} → o.answer ≡ Ok (Decision.NoRoom states) → states ≡ room_for q keys path
   no_room_count {states} e = ((no_room_as bytes keys path word q states).0 (sym out.answer ∙ e)).states_are
 
 pub built_count : (bytes : List ℕ) (keys : List ℤ) (table : List ℕ) (q : IsQuestion bytes) {o : Built} → BuildOutcome bytes keys table o
-    → {states s : ℕ} → o.answer ≡ BuildAnswer.Built states → StatesAre (machine_of (held_in q)) s → states ≡ s
+    → {states s : ℕ} → o.answer ≡ Ok (Building.Built states) → StatesAre (machine_of (held_in q)) s → states ≡ s
 built_count bytes keys table q out {states} e a = states_unique ((built_as bytes keys table q states).0 (sym out.answer ∙ e)).0 a

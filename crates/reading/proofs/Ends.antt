@@ -6,28 +6,25 @@ use Prim.Native.Nat.{ℕ, ◌+◌, ◌<◌, ◌≤◌}
 use native.Mathlib.Omega.{arith}
 use borrow.Author.Tests.{le-leb, lt-leb}
 use lib.ListN.{length}
-use Rattle.scope.specs.declared.Question.{Question}
+use Rattle.scope.specs.declared.Rule.{Rule}
 use Rattle.scope.specs.declared.Refusal.{Refusal}
-use Rattle.scope.specs.declared.ReadAnswer.{ReadAnswer}
-use Rattle.scope.specs.declared.Held.{Held}
 use Rattle.scope.specs.Sizes.{most_variables, most_nodes}
-use Rattle.scope.specs.Question.{empty_question}
-use Rattle.scope.specs.Refusals.{LEFT_OVER, refusal, first_refusal, Progress, stopped, going, ended, or_stopped, onward}
+use Rattle.scope.specs.Refusals.{unless_refused, refusal, first_refusal, Progress, stopped, going, ended, or_stopped, onward}
 use Rattle.scope.specs.Wire.{Reading, Ended, byte_at, head_checks, after_head, head_read, record_read, read_from, whole_read, held_of, read_held}
 use Rattle.theory.specs.Wire.Checks.{Passed, none_passed, onward_stopped}
 use Rattle.records.proofs.Bounds.{few_variables}
-use Rattle.reading.specs.declared.frames.HeadAnswer.{HeadAnswer}
-use Rattle.reading.specs.Steps.{head_or, head_answer}
+use Rattle.std.specs.Prelude.{Ok, Err}
+use Rattle.reading.specs.Steps.{head_answer}
 use Rattle.reading.specs.Answers.{formula_read}
 use Rattle.reading.proofs.Framed.{frame_within}
 
 -- ---- the head
 
-head_none : (o : Option Refusal) (m n : ℕ) → head_or o m ≡ HeadAnswer.Head n → (o ≡ none) × (n ≡ m)
+head_none : (o : Option Refusal) (m n : ℕ) → unless_refused o m ≡ Ok n → (o ≡ none) × (n ≡ m)
 head_none none m n e = (refl, cc)
 head_none (some r) m n e = let z : ◌≡◌ {A = ℕ} 0 1 = cc in absurd (omega arith)
 
-head_some : (o : Option Refusal) (m : ℕ) (r : Refusal) → head_or o m ≡ HeadAnswer.Refused r → o ≡ some r
+head_some : (o : Option Refusal) (m : ℕ) (r : Refusal) → unless_refused o m ≡ Err r → o ≡ some r
 head_some none m r e = let z : ◌≡◌ {A = ℕ} 0 1 = cc in absurd (omega arith)
 head_some (some s) m r e = cc
 
@@ -35,11 +32,11 @@ module _ (b : List ℕ) (at : ℕ) where
   abbrev read : Option Refusal → Progress Reading Ended
   read o = onward (most_nodes + 1) (record_read b) (or_stopped o (going (after_head b at)))
 
-  pub head_stops : (r : Refusal) → head_answer b at ≡ HeadAnswer.Refused r → stopped r ≡ read_from b at
+  pub head_stops : (r : Refusal) → head_answer b at ≡ Err r → stopped r ≡ read_from b at
   unfolding read_from head_read
   head_stops r e = sym (ap read (head_some (first_refusal (head_checks b at)) (byte_at b (at + 4)) r e) ∙ onward_stopped (most_nodes + 1) (record_read b) r)
 
-  module _ (n : ℕ) (e : head_answer b at ≡ HeadAnswer.Head n) where
+  module _ (n : ℕ) (e : head_answer b at ≡ Ok n) where
     said : (first_refusal (head_checks b at) ≡ none) × (n ≡ byte_at b (at + 4))
     said = head_none (first_refusal (head_checks b at)) (byte_at b (at + 4)) n e
 
@@ -58,19 +55,16 @@ module _ (b : List ℕ) (at : ℕ) where
 
 -- ---- after the end
 
-abbrev held : ReadAnswer → Question → Held
-held answer question = record { answer = answer; question = question }
-
 module _ (b : List ℕ) where
-  pub not_read : (r : Refusal) → read_from b 0 ≡ stopped r → read_held b ≡ held (ReadAnswer.Refused r) empty_question
+  pub not_read : (r : Refusal) → read_from b 0 ≡ stopped r → read_held b ≡ Err r
   unfolding read_held whole_read
   not_read r e = ap (λ (p : Progress Reading Ended). held_of (whole_read b p)) e
 
   module _ (e : Ended) (p : read_from b 0 ≡ ended e) where
-    pub left_over : e.next < length b → read_held b ≡ held (ReadAnswer.Refused (refusal LEFT_OVER e.next)) empty_question
+    pub left_over : e.next < length b → read_held b ≡ Err (refusal Rule.LeftOver e.next)
     unfolding read_held whole_read first_refusal
     left_over h = ap (λ (q : Progress Reading Ended). held_of (whole_read b q)) p ∙ rw (lt-leb (length b) e.next h)
 
-    pub all_read : length b ≤ e.next → read_held b ≡ held ReadAnswer.Accepted e.question
+    pub all_read : length b ≤ e.next → read_held b ≡ Ok e.question
     unfolding read_held whole_read first_refusal
     all_read h = ap (λ (q : Progress Reading Ended). held_of (whole_read b q)) p ∙ rw (le-leb (length b) e.next h)

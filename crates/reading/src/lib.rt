@@ -3,176 +3,85 @@
 
 ghost use Rattle.std.specs.Prelude.{◌≡◌, ◌≤◌, length};
 ghost use Rattle.scope.specs.Sizes.{most_variables};
+ghost use Rattle.scope.specs.Question.{empty_question};
 ghost use Rattle.scope.specs.Wire.{read_from, read_held};
-ghost use Rattle.reading.specs.Answers.{part_read, PartsBlank, PartsSay, HeldSays, formula_read, end_answer};
+ghost use Rattle.reading.specs.Answers.{part_read, headed, FromSays, HeldSays, formula_read, end_answer};
 
 mod frames;
 mod nodes;
 
-use frames::{FrameAnswer, HeadAnswer, frame_at, head_at};
+use frames::{frame_at, head_at};
 use nodes::node_at;
-use records::{DUE, NodeAnswer, body_length, count_of, grown, unread};
-use scope::{Held, Question, ReadAnswer, Refusal};
+use records::{Shape, body_length};
+use scope::{Question, Refusal, Rule};
 
-// What reading from a place gives: its answer, the question, which is empty where it was refused, and the place after the end record.
+// What reading from a place gives: the question, and the place after the end record.
 #[derive(Clone, Copy)]
 pub struct ReadPart {
-    pub answer: ReadAnswer,
     pub question: Question,
     pub next: usize,
 }
 
-// What reading into lent parts gives: n, and the place after the end record. A question handed on by value would be copied each time.
-#[derive(Clone, Copy)]
-pub enum PartsAnswer {
-    Parts { n: u8, next: usize },
-    Refused(Refusal),
+// The end record: the place after it.
+fn end_from(bytes: &[u8], at: usize) -> Result<usize, Refusal>
+    ensures { result ≡ end_answer bytes.now at }
+{
+    frame_at(bytes, at, 0x00FF, 0)?;
+    Ok(at + 4)
 }
 
-fn end_from(bytes: &[u8], at: usize, n: u8) -> PartsAnswer
-    ensures { result ≡ end_answer bytes.now at n }
+// The formula into the question of which the head alone is read, and the end.
+fn formula_from(bytes: &[u8], at: usize, question: &mut Question) -> Result<usize, Refusal>
+    requires { (question.old ≡ headed question.old.n) × ((question.old.n ≤ most_variables) × (at ≤ length bytes.now)) }
+    ensures { FromSays (formula_read bytes.now question.old.n at) result question.new }
 {
-    match frame_at(bytes, at, 0x00FF, 0) {
-        FrameAnswer::Refused(refusal) => PartsAnswer::Refused(refusal),
-        FrameAnswer::There => PartsAnswer::Parts { n, next: at + 4 },
-    }
-}
-
-// The formula into the parts of the empty question, and the end.
-fn formula_from(
-    bytes: &[u8],
-    at: usize,
-    n: u8,
-    codes: &mut [u8],
-    coefficients: &mut [i32],
-    constants: &mut [i32],
-) -> PartsAnswer
-    requires { (n ≤ most_variables) × ((at ≤ length bytes.now) × PartsBlank codes.old coefficients.old constants.old) }
-    ensures { PartsSay (formula_read bytes.now n at) result codes.new coefficients.new constants.new }
-{
-    let count = count_of(n);
-    let mut due = [1u8; DUE];
-    let mut shape = unread();
+    let n = usize::from(question.n);
+    let mut shape = Shape::unread();
     let mut place = at;
-    while shape.top < DUE {
-        let top = shape.top;
-        let depth = count_of(due[top]);
-        match node_at(
-            bytes,
-            place,
-            count,
-            shape,
-            depth,
-            codes,
-            coefficients,
-            constants,
-        ) {
-            NodeAnswer::Refused(refusal) => return PartsAnswer::Refused(refusal),
-            NodeAnswer::Node(code) => {
-                shape = grown(shape, code, &mut due);
-                place = place + 4 + body_length(count, code);
-            }
-        }
+    while let Some(depth) = shape.depth() {
+        let code = node_at(bytes, place, &shape, depth, question)?;
+        shape.grow(code);
+        place += 4 + body_length(n, code);
     }
-    end_from(bytes, place, n)
+    end_from(bytes, place)
 }
 
-// Reads the question that starts at a place, up to its end record, into parts that are lent as the empty question's. Where it is refused, they hold what was read so far.
-fn parts_from(
-    bytes: &[u8],
-    at: usize,
-    codes: &mut [u8],
-    coefficients: &mut [i32],
-    constants: &mut [i32],
-) -> PartsAnswer
-    requires { PartsBlank codes.old coefficients.old constants.old }
-    ensures { PartsSay (read_from bytes.now at) result codes.new coefficients.new constants.new }
+// Reads the question that starts at a place, up to its end record, into one that is lent empty: the place after it. Where it is refused, the
+// question holds what was read so far.
+fn part_into(bytes: &[u8], at: usize, question: &mut Question) -> Result<usize, Refusal>
+    requires { question.old ≡ empty_question }
+    ensures { FromSays (read_from bytes.now at) result question.new }
 {
-    match head_at(bytes, at) {
-        HeadAnswer::Refused(refusal) => PartsAnswer::Refused(refusal),
-        HeadAnswer::Head(n) => formula_from(bytes, at + 5, n, codes, coefficients, constants),
-    }
+    question.n = head_at(bytes, at)?;
+    formula_from(bytes, at + 5, question)
 }
 
 // Reads the question that starts at a place, up to its end record. What comes after is the caller's.
-pub fn read_from(bytes: &[u8], at: usize) -> ReadPart
+pub fn read_from(bytes: &[u8], at: usize) -> Result<ReadPart, Refusal>
     ensures { result ≡ part_read (read_from bytes.now at) }
 {
-    let mut codes = [0u8; Question::NODES];
-    let mut coefficients = [0i32; Question::COEFFICIENTS];
-    let mut constants = [0i32; Question::ATOMS];
-    match parts_from(bytes, at, &mut codes, &mut coefficients, &mut constants) {
-        PartsAnswer::Refused(refusal) => {
-            let next = refusal.place;
-            let question = Question::empty();
-            let answer = ReadAnswer::Refused(refusal);
-            ReadPart {
-                answer,
-                question,
-                next,
-            }
-        }
-        PartsAnswer::Parts { n, next } => {
-            let question = Question {
-                n,
-                codes,
-                coefficients,
-                constants,
-            };
-            let answer = ReadAnswer::Accepted;
-            ReadPart {
-                answer,
-                question,
-                next,
-            }
-        }
-    }
+    let mut question = Question::empty();
+    let next = part_into(bytes, at, &mut question)?;
+    Ok(ReadPart { question, next })
 }
 
-// Reads a question that is all there is, into parts that are lent as the empty question's. Where it is refused, they hold what was read so far.
-pub fn read_parts(
-    bytes: &[u8],
-    codes: &mut [u8],
-    coefficients: &mut [i32],
-    constants: &mut [i32],
-) -> PartsAnswer
-    requires { PartsBlank codes.old coefficients.old constants.old }
-    ensures { HeldSays (read_held bytes.now) result codes.new coefficients.new constants.new }
+// Reads a question that is all there is, into one that is lent empty. Where it is refused, that holds what was read so far.
+pub fn read_into(bytes: &[u8], question: &mut Question) -> Result<(), Refusal>
+    requires { question.old ≡ empty_question }
+    ensures { HeldSays (read_held bytes.now) result question.new }
 {
-    let parts = parts_from(bytes, 0, codes, coefficients, constants);
-    if let PartsAnswer::Parts { n: _, next } = parts {
-        if next < bytes.len() {
-            return PartsAnswer::Refused(Refusal {
-                number: Refusal::LEFT_OVER,
-                place: next,
-            });
-        }
+    let next = part_into(bytes, 0, question)?;
+    if next < bytes.len() {
+        return Err(Rule::LeftOver.at(next));
     }
-    parts
+    Ok(())
 }
 
 // Reads a question that is all there is.
-pub fn read(bytes: &[u8]) -> Held
+pub fn read(bytes: &[u8]) -> Result<Question, Refusal>
     ensures { result ≡ read_held bytes.now }
 {
-    let mut codes = [0u8; Question::NODES];
-    let mut coefficients = [0i32; Question::COEFFICIENTS];
-    let mut constants = [0i32; Question::ATOMS];
-    match read_parts(bytes, &mut codes, &mut coefficients, &mut constants) {
-        PartsAnswer::Refused(refusal) => {
-            let answer = ReadAnswer::Refused(refusal);
-            let question = Question::empty();
-            Held { answer, question }
-        }
-        PartsAnswer::Parts { n, next: _ } => {
-            let answer = ReadAnswer::Accepted;
-            let question = Question {
-                n,
-                codes,
-                coefficients,
-                constants,
-            };
-            Held { answer, question }
-        }
-    }
+    let mut question = Question::empty();
+    read_into(bytes, &mut question)?;
+    Ok(question)
 }

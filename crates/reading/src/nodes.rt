@@ -1,80 +1,72 @@
-// A node: each check in document 01's order, and the node noted in the parts of the question.
+// A node: each check in document 01's order, and the node noted in the question.
 ghost use Rattle.std.specs.Prelude.{◌≡◌, ◌≤◌};
 ghost use Rattle.scope.specs.Sizes.{most_variables};
-ghost use Rattle.scope.specs.Question.{code_of};
 ghost use Rattle.scope.specs.Wire.{node_of_kind};
-ghost use Rattle.theory.specs.Wire.Held.{Sized};
-ghost use Rattle.records.specs.Parts.{held_question};
-ghost use Rattle.reading.specs.Steps.{reading_at, node_frame, NodeRead};
+ghost use Rattle.reading.specs.Steps.{used_code, reading_at, node_frame, NodeRead};
 
 use fields::take_atom;
-use records::{HeaderAnswer, NodeAnswer, Shape, body_length, header_at, refused, sized};
-use scope::{Question, Refusal, is_atom};
+use records::{Shape, body_length, header_at, sized};
+use scope::{Question, Refusal, Rule, is_atom};
 
-pub fn code_of_kind(kind: u16) -> u8
-    ensures { result ≡ code_of (node_of_kind kind) }
+// None where the kind is none of a node.
+pub fn code_of_kind(kind: u16) -> Option<u8>
+    ensures { result ≡ used_code (node_of_kind kind) }
 {
     match kind {
-        0x0010 => 1,
-        0x0011 => 2,
-        0x0020 => 3,
-        0x0021 => 4,
-        0x0022 => 5,
-        _ => 0,
+        0x0010 => Some(1),
+        0x0011 => Some(2),
+        0x0020 => Some(3),
+        0x0021 => Some(4),
+        0x0022 => Some(5),
+        _ => None,
     }
 }
 
 // A node's kind, length and body.
-pub fn node_frame(bytes: &[u8], at: usize, n: usize) -> NodeAnswer
+pub fn node_frame(bytes: &[u8], at: usize, n: usize) -> Result<u8, Refusal>
     requires { n ≤ most_variables }
     ensures { result ≡ node_frame bytes.now at n }
 {
-    let HeaderAnswer::Header { kind, len } = header_at(bytes, at) else {
-        return refused(Refusal::BYTES_END, at);
+    let Some(header) = header_at(bytes, at) else {
+        return Err(Rule::BytesEnd.at(at));
     };
-    let code = code_of_kind(kind);
-    if code == 0 {
-        return refused(Refusal::NOT_DUE, at);
-    }
+    let Some(code) = code_of_kind(header.kind) else {
+        return Err(Rule::NotDue.at(at));
+    };
+    let len = header.len;
     if len != body_length(n, code) {
-        return refused(Refusal::BODY_LENGTH, at);
+        return Err(Rule::BodyLength.at(at));
     }
     if bytes.len() - at - 4 < len {
-        return refused(Refusal::BYTES_END, at);
+        return Err(Rule::BytesEnd.at(at));
     }
-    NodeAnswer::Node(code)
+    Ok(code)
 }
 
-// A node with all its checks, noted in the parts of the question. An atom's numbers are noted as they are checked.
+// A node with all its checks, noted in the question. An atom's numbers are noted as they are checked.
 pub fn node_at(
     bytes: &[u8],
     at: usize,
-    n: usize,
-    shape: Shape,
+    shape: &Shape,
     depth: usize,
-    codes: &mut [u8],
-    coefficients: &mut [i32],
-    constants: &mut [i32],
-) -> NodeAnswer
-    requires { (n ≤ most_variables) × Sized (held_question n codes.old coefficients.old constants.old) }
-    ensures { NodeRead bytes.now depth (reading_at (held_question n codes.old coefficients.old constants.old) shape.nodes shape.atoms at) result (held_question n codes.new coefficients.new constants.new) }
+    question: &mut Question,
+) -> Result<u8, Refusal>
+    requires { question.old.n ≤ most_variables }
+    ensures { NodeRead bytes.now depth (reading_at question.old shape.now.nodes shape.now.atoms at) result question.new }
 {
-    let frame = node_frame(bytes, at, n);
-    let NodeAnswer::Node(code) = frame else {
-        return frame;
-    };
+    let code = node_frame(bytes, at, usize::from(question.n))?;
     let nodes = shape.nodes;
     let atoms = shape.atoms;
     let atom = is_atom(code);
     if Question::NODES <= nodes {
-        return refused(Refusal::TOO_MANY, at);
+        return Err(Rule::TooMany.at(at));
     }
     if !sized(atom, atoms, depth) {
-        return refused(Refusal::TOO_MANY, at);
+        return Err(Rule::TooMany.at(at));
     }
-    codes[nodes] = code;
+    question.codes[nodes] = code;
     if !atom {
-        return frame;
+        return Ok(code);
     }
-    take_atom(bytes, at, n, code, atoms, coefficients, constants)
+    take_atom(bytes, at, code, atoms, question)
 }

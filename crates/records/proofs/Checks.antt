@@ -9,13 +9,14 @@ use native.Mathlib.Omega.{arith}
 use borrow.Author.Tests.{le-ltb, lt-ltb}
 use lib.Dec.{T, leb, ltb, ltb→lt}
 use lib.IntN.{ℤ}
+use Rattle.scope.specs.declared.Rule.{Rule}
 use Rattle.scope.specs.declared.Refusal.{Refusal}
 use Rattle.scope.specs.Sizes.{most_nodes, most_atoms, most_depth}
 use Rattle.scope.specs.Question.{Node, code_of, is_atom}
-use Rattle.scope.specs.Refusals.{TOO_MANY, Check, check, refusal, first_refusal}
+use Rattle.scope.specs.Refusals.{Check, check, refusal, first_refusal}
 use Rattle.scope.specs.Wire.{Shape, place_check, size_checks, field_checks, atom_checks}
 use Rattle.theory.specs.Wire.Checks.{was_asked, failing_at}
-use Rattle.records.specs.declared.nodes.NodeAnswer.{NodeAnswer}
+use Rattle.std.specs.Prelude.{Ok, Err}
 use Rattle.records.specs.Formula.{size_fits}
 use Rattle.records.specs.Parts.{node_or}
 
@@ -33,36 +34,36 @@ and-false false b e = inl refl
 
 -- ---- the first check
 
-module _ (number place : ℕ) (t : Bool) (later : List Check) where
-  pub first_failed : t ≡ false → first_refusal (check number place t ∷ later) ≡ some (refusal number place)
-  first_failed e = failing_at [] (check number place t) later tt e
+module _ (rule : Rule) (place : ℕ) (t : Bool) (later : List Check) where
+  pub first_failed : t ≡ false → first_refusal (check rule place t ∷ later) ≡ some (refusal rule place)
+  first_failed e = failing_at [] (check rule place t) later tt e
 
-  pub first_passed : t ≡ true → first_refusal (check number place t ∷ later) ≡ first_refusal later
+  pub first_passed : t ≡ true → first_refusal (check rule place t ∷ later) ≡ first_refusal later
   unfolding first_refusal
   first_passed e = rw e
 
 -- ---- the place and the size of a node
 
 module _ (place : ℕ) (s : Shape) (later : List Check) where
-  pub no_room_lem : most_nodes ≤ s.nodes → first_refusal (place_check place s ∷ later) ≡ some (refusal TOO_MANY place)
-  no_room_lem h = first_failed TOO_MANY place (ltb s.nodes most_nodes) later (le-ltb s.nodes most_nodes h)
+  pub no_room_lem : most_nodes ≤ s.nodes → first_refusal (place_check place s ∷ later) ≡ some (refusal Rule.TooMany place)
+  no_room_lem h = first_failed Rule.TooMany place (ltb s.nodes most_nodes) later (le-ltb s.nodes most_nodes h)
 
   pub some_room : s.nodes < most_nodes → first_refusal (place_check place s ∷ later) ≡ first_refusal later
-  some_room h = first_passed TOO_MANY place (ltb s.nodes most_nodes) later (lt-ltb s.nodes most_nodes h)
+  some_room h = first_passed Rule.TooMany place (ltb s.nodes most_nodes) later (lt-ltb s.nodes most_nodes h)
 
   module _ (x : Node) (depth : ℕ) where
     abbrev few : Bool
     few = not (is_atom x) || ltb s.atoms most_atoms
 
-    pub too_large_lem : size_fits (is_atom x) s.atoms depth ≡ false → first_refusal (size_checks place x depth s later) ≡ some (refusal TOO_MANY place)
-    too_large_lem e = ⊎_elim (first_failed TOO_MANY place few _)
-        (λ p. first_passed TOO_MANY place few _ p.0 ∙ first_failed TOO_MANY place (leb depth most_depth) later p.1)
+    pub too_large_lem : size_fits (is_atom x) s.atoms depth ≡ false → first_refusal (size_checks place x depth s later) ≡ some (refusal Rule.TooMany place)
+    too_large_lem e = ⊎_elim (first_failed Rule.TooMany place few _)
+        (λ p. first_passed Rule.TooMany place few _ p.0 ∙ first_failed Rule.TooMany place (leb depth most_depth) later p.1)
         (and-false few (leb depth most_depth) e)
 
     pub small_enough : size_fits (is_atom x) s.atoms depth ≡ true → first_refusal (size_checks place x depth s later) ≡ first_refusal later
     small_enough e =
         let p = and-true few (leb depth most_depth) e in
-        first_passed TOO_MANY place few _ p.0 ∙ first_passed TOO_MANY place (leb depth most_depth) later p.1
+        first_passed Rule.TooMany place few _ p.0 ∙ first_passed Rule.TooMany place (leb depth most_depth) later p.1
 
 -- an atom that is one of eight
 pub few_atoms : (t : Bool) (atoms : ℕ) → T (not t || ltb atoms most_atoms) → t ≡ true → atoms < most_atoms
@@ -83,10 +84,10 @@ module _ (place apart : ℕ) (x : Node) (coefficients : List ℤ) (constant : �
 
 -- ---- what was answered of a node says what was refused
 
-pub node_none : (o : Option Refusal) (x : Node) (code : ℕ) → node_or o x ≡ NodeAnswer.Node code → (o ≡ none) × (code ≡ code_of x)
+pub node_none : (o : Option Refusal) (x : Node) (code : ℕ) → node_or o x ≡ Ok code → (o ≡ none) × (code ≡ code_of x)
 node_none none x code e = (refl, cc)
 node_none (some r) x code e = let z : ◌≡◌ {A = ℕ} 0 1 = cc in absurd (omega arith)
 
-pub node_some : (o : Option Refusal) (x : Node) (r : Refusal) → node_or o x ≡ NodeAnswer.Refused r → o ≡ some r
+pub node_some : (o : Option Refusal) (x : Node) (r : Refusal) → node_or o x ≡ Err r → o ≡ some r
 node_some none x r e = let z : ◌≡◌ {A = ℕ} 0 1 = cc in absurd (omega arith)
 node_some (some s) x r e = cc

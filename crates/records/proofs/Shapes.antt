@@ -8,7 +8,8 @@ use native.Mathlib.Numerals.{add-one}
 use lib.ListN.{length, set, drop, take, length-set}
 use lib.Seq.{set_split, drop_at, length-take-le}
 use Rattle.scope.specs.Wire as wire
-use Rattle.records.specs.Formula.{Known, Open, Grown, due_depth}
+use Rattle.records.specs.declared.shape.Shape.{Shape}
+use Rattle.records.specs.Formula.{Open, Grown, due_depth}
 use Rattle.records.proofs.Codes.{atom_code, two_code}
 
 -- a store at i is what stands first from i on
@@ -23,7 +24,7 @@ two_due l i v g h =
 same_shape : (n a b : ℕ) (d e : List ℕ) → a ≡ b → d ≡ e → ◌≡◌ {A = wire.Shape} (record { nodes = n; atoms = a; due = d }) (record { nodes = n; atoms = b; due = e })
 same_shape n a b d e p q = λ i. record { nodes = n; atoms = p i; due = q i }
 
-module _ (s : Known) (code : ℕ) (h : Open s code) where
+module _ (s : Shape) (code : ℕ) (h : Open s code) where
   pub grown_atom : code ≤ 2 → Grown s code (record { nodes = s.nodes + 1; atoms = s.atoms + 1; top = s.top + 1; due = s.due })
   unfolding wire.grown
   grown_atom k = let e = atom_code code h.node k in record {

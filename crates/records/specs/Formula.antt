@@ -1,5 +1,5 @@
--- The code's shape of a formula with the array of the parts still due, and document 01's shape: what is due is what stands from top on.
-use Rattle.std.specs.Prelude.{ℕ, ◌+◌, ◌≤◌, ◌<◌, ◌≡◌, Bool, not, ◌&&◌, ◌||◌, List, [], leb, ltb, length, get_or, drop}
+-- The code's shape of a formula, and document 01's: what is due is what stands from top on.
+use Rattle.std.specs.Prelude.{ℕ, ◌+◌, ◌≤◌, ◌<◌, ◌≡◌, Bool, true, false, not, ◌&&◌, ◌||◌, List, [], leb, ltb, length, get_or, drop, Option, Some, None}
 use Rattle.scope.specs.Sizes.{most_atoms, most_nodes, most_depth}
 use Rattle.scope.specs.Question.{node_of}
 use Rattle.scope.specs.Wire as wire
@@ -17,49 +17,48 @@ counts nodes atoms = record { nodes = nodes; atoms = atoms; due = [] }
 
 -- ---- the shape
 
-pub record Known : Type 0 where
-  pub nodes : ℕ
-  pub atoms : ℕ
-  pub top : ℕ
-  pub due : List ℕ
-
-abbrev pub known_by : Shape → List ℕ → Known
-known_by s due = record { nodes = s.nodes; atoms = s.atoms; top = s.top; due = due }
-
-abbrev pub due_of : Known → List ℕ
+abbrev pub due_of : Shape → List ℕ
 due_of s = drop s.top s.due
 
-abbrev pub shape_of : Known → wire.Shape
+abbrev pub shape_of : Shape → wire.Shape
 shape_of s = record { nodes = s.nodes; atoms = s.atoms; due = due_of s }
 
 -- no more parts are due than there are nodes, and one
-pub record KnownSound (s : Known) : Type 0 where
+pub record ShapeSound (s : Shape) : Type 0 where
   pub full : length s.due ≡ most_nodes + 2
   pub within : s.top ≤ most_nodes + 2
   pub few : most_nodes + 1 ≤ s.top + s.nodes
   pub bounded : s.nodes ≤ most_nodes
   pub sparse : s.atoms ≤ s.nodes
 
-pub record Unread (s : Known) : Type 0 where
-  pub sound : KnownSound s
+pub record Unread (s : Shape) : Type 0 where
+  pub sound : ShapeSound s
   pub shape : shape_of s ≡ wire.unread
 
 -- the depth of the part that is due first, and the parts due after it
-abbrev pub due_depth : Known → ℕ
+abbrev pub due_depth : Shape → ℕ
 due_depth s = get_or s.due s.top 0
 
-abbrev pub later_of : Known → List ℕ
+abbrev pub later_of : Shape → List ℕ
 later_of s = drop (s.top + 1) s.due
 
+-- the depth of the part that is due first, where one is due
+abbrev pub depth_or : Bool → ℕ → Option ℕ
+depth_or true depth = Some depth
+depth_or false depth = None
+
+abbrev pub first_due : Shape → Option ℕ
+first_due s = depth_or (ltb s.top (most_nodes + 2)) (due_depth s)
+
 -- a node can take the place of the part that is due first
-pub record Open (s : Known) (code : ℕ) : Type 0 where
-  pub sound : KnownSound s
+pub record Open (s : Shape) (code : ℕ) : Type 0 where
+  pub sound : ShapeSound s
   pub due : s.top < most_nodes + 2
   pub room : s.nodes < most_nodes
   pub shallow : due_depth s ≤ most_depth
   pub node : 1 ≤ code
   pub known : code ≤ 5
 
-pub record Grown (s : Known) (code : ℕ) (r : Known) : Type 0 where
-  pub sound : KnownSound r
+pub record Grown (s : Shape) (code : ℕ) (r : Shape) : Type 0 where
+  pub sound : ShapeSound r
   pub shape : shape_of r ≡ wire.grown (node_of code) (due_depth s) (later_of s) (shape_of s)

@@ -1,4 +1,4 @@
--- What a record is to the code, the walk along a formula, and a question by its parts.
+-- What a record is to the code, the walk along a formula, and what looking at a node of a held question answers.
 pub mod Headers
 pub mod Bodies
 pub mod Formula

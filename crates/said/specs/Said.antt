@@ -1,9 +1,9 @@
 -- What the program smt prints of an answer, byte by byte, as other solvers print it: sat, unsat or unknown; behind sat a value for each name, in the order declared.
-use Rattle.std.specs.Prelude.{ℕ, suc, ◌+◌, ◌*◌, ◌-◌, ◌≤◌, Bool, false, cond, List, [], ◌∷◌, ◌++◌, length, get_or, take, drop, eqb}
-use Rattle.scope.specs.declared.DecideAnswer.{DecideAnswer}
-use Rattle.scope.specs.declared.SpellAnswer.{SpellAnswer}
+use Rattle.std.specs.Prelude.{ℕ, suc, ◌+◌, ◌*◌, ◌-◌, ◌≤◌, Bool, false, cond, List, [], ◌∷◌, ◌++◌, length, get_or, take, drop, eqb, Ok, Err, Result}
+use Rattle.scope.specs.declared.Rule.{Rule}
+use Rattle.scope.specs.declared.Decision.{Decision}
 use Rattle.scope.specs.declared.Refusal.{Refusal}
-use Rattle.scope.specs.Refusals.{refusal, TOO_SHORT}
+use Rattle.scope.specs.Refusals.{rule_number, refusal}
 use Rattle.scope.specs.Words.{Word, spelled, spelt}
 use Rattle.told.specs.Decimal.{decimal}
 use Rattle.told.specs.Text.{ascii, spaced}
@@ -27,15 +27,15 @@ define_lines text bounds i [] = []
 define_lines text bounds i (v ∷ vs) = define_line (name_said text (get_or bounds (2 * i) 0) (get_or bounds (2 * i + 1) 0)) v ++ define_lines text bounds (suc i) vs
 
 abbrev pub error_line : Refusal → List ℕ
-error_line r = ascii "(error \"" ++ (decimal r.number ++ (ascii " at" ++ (spaced r.place ++ ascii "\")\n")))
+error_line r = ascii "(error \"" ++ (decimal (rule_number r.rule) ++ (ascii " at" ++ (spaced r.place ++ ascii "\")\n")))
 
 abbrev pub model_lines : List ℕ → List ℕ → ℕ → Word → List ℕ
 model_lines text bounds n w = ascii "(\n" ++ (define_lines text bounds 0 (spelled n w) ++ ascii ")\n")
 
 -- values that spelling refuses are told by its refusal
-abbrev pub model_by : SpellAnswer → List ℕ → List ℕ → ℕ → Word → List ℕ
-model_by (SpellAnswer.Value v) text bounds n w = model_lines text bounds n w
-model_by (SpellAnswer.Refused r) text bounds n w = error_line r
+abbrev pub model_by : Result ℕ Refusal → List ℕ → List ℕ → ℕ → Word → List ℕ
+model_by (Ok v) text bounds n w = model_lines text bounds n w
+model_by (Err r) text bounds n w = error_line r
 
 abbrev pub model_said : List ℕ → List ℕ → ℕ → Word → List ℕ
 model_said text bounds n w = model_by (spelt n 1 w) text bounds n w
@@ -47,14 +47,14 @@ sat_said text bounds n w = ascii "sat\n" ++ model_said text bounds n w
 
 -- found, and the word buffer was too short for the word
 abbrev pub short_said : List ℕ
-short_said = ascii "sat\n" ++ error_line (refusal TOO_SHORT 0)
+short_said = ascii "sat\n" ++ error_line (refusal Rule.TooShort 0)
 
-abbrev pub said_of : List ℕ → List ℕ → ℕ → DecideAnswer → List ℕ → List ℕ
-said_of text bounds n (DecideAnswer.Found states letters) word = sat_said text bounds n (take letters word)
-said_of text bounds n (DecideAnswer.Never states) word = ascii "unsat\n"
-said_of text bounds n (DecideAnswer.NoRoom states) word = ascii "unknown\n"
-said_of text bounds n (DecideAnswer.Short states letters) word = short_said
-said_of text bounds n (DecideAnswer.Refused r) word = error_line r
+abbrev pub said_of : List ℕ → List ℕ → ℕ → Result Decision Refusal → List ℕ → List ℕ
+said_of text bounds n (Ok (Decision.Found states letters)) word = sat_said text bounds n (take letters word)
+said_of text bounds n (Ok (Decision.Never states)) word = ascii "unsat\n"
+said_of text bounds n (Ok (Decision.NoRoom states)) word = ascii "unknown\n"
+said_of text bounds n (Ok (Decision.Short states letters)) word = short_said
+said_of text bounds n (Err r) word = error_line r
 
 -- ---- room for all that is said of a text of so many bytes
 

@@ -1,42 +1,28 @@
 // What the program smt prints of an answer. Writers put text at a place of a buffer and answer the place after it.
 #![tactic(auto)]
 
-ghost use Rattle.std.specs.Prelude.{◌≡◌, ◌+◌, ◌-◌, ◌*◌, ◌≤◌, min, length, take, drop};
+ghost use Rattle.std.specs.Prelude.{◌≡◌, ◌+◌, ◌-◌, ◌*◌, ◌≤◌, length, take, drop};
 ghost use Rattle.scope.specs.Words.{spelled};
-ghost use Rattle.scope.specs.Refusals.{refusal};
 ghost use Rattle.told.specs.Writers.{Put};
 ghost use Rattle.told.specs.Values.{Spellable};
 ghost use Rattle.said.specs.Said.{barred, name_said, define_line, define_lines, error_line, model_lines, model_said, sat_said, short_said, said_of, say_room, BoundsStand};
 
-use scope::{DecideAnswer, Refusal, SpellAnswer};
+use scope::{Decision, Refusal, Rule};
 use told::{put_byte, put_bytes, put_decimal, put_number, value_of, word_of};
-
-fn lesser(a: usize, b: usize) -> usize
-    ensures { result ≡ min a b }
-{
-    if a < b { a } else { b }
-}
 
 // The bytes from a place up to another, as far as the text has them.
 fn stretch_of<'a>(text: &'a [u8], from: usize, to: usize) -> &'a [u8]
     ensures { result.now ≡ take (to - from) (drop from text.now) }
 {
-    let end = lesser(to, text.len());
-    let start = lesser(from, end);
-    &text[start..end]
+    let end = to.min(text.len());
+    &text[from.min(end)..end]
 }
 
 // Whether a bar stands before a name's spelling.
 fn has_bars(text: &[u8], from: usize) -> bool
     ensures { result ≡ barred text.now from }
 {
-    if from == 0 {
-        return false;
-    }
-    if text.len() < from {
-        return false;
-    }
-    text[from - 1] == b'|'
+    0 < from && from <= text.len() && text[from - 1] == b'|'
 }
 
 // A name as the text has it.
@@ -79,25 +65,24 @@ fn define_lines(
     ensures { Put (define_lines text.now bounds.now 0 (spelled n word.now)) at out.old result out.new × (result ≤ at + n * (length text.now + 64)) }
 {
     let mut next = at;
-    let mut i = 0;
-    while i < n {
+    for i in 0..n {
         let value = value_of(n, i + 1, word);
         let from = bounds[2 * i];
         let to = bounds[2 * i + 1];
         next = define_line(text, from, to, value, out, next);
-        i += 1;
     }
     next
 }
 
-fn error_line(number: u8, place: usize, out: &mut [u8], at: usize) -> usize
+fn error_line(refusal: Refusal, out: &mut [u8], at: usize) -> usize
     requires { at + 64 ≤ length out.old }
-    ensures { Put (error_line (refusal number place)) at out.old result out.new }
+    ensures { Put (error_line refusal) at out.old result out.new }
 {
     let start = put_bytes(b"(error \"", out, at);
-    let said = put_decimal(number as u64, out, start);
+    let said = put_decimal(u64::from(refusal.rule.number()), out, start);
     let before = put_bytes(b" at", out, said);
-    let end = put_number(place as u64, out, before);
+    // u64 has no From<usize>, and a fallible one would add a case that cannot come.
+    let end = put_number(refusal.place as u64, out, before);
     put_bytes(b"\")\n", out, end)
 }
 
@@ -122,8 +107,8 @@ fn model_said(
     ensures { Put (model_said text.now bounds.now n word.now) at out.old result out.new }
 {
     match words::spell(n, 1, word) {
-        SpellAnswer::Value(_) => model(text, bounds, n, word, out, at),
-        SpellAnswer::Refused(refusal) => error_line(refusal.number, refusal.place, out, at),
+        Ok(_) => model(text, bounds, n, word, out, at),
+        Err(refusal) => error_line(refusal, out, at),
     }
 }
 
@@ -141,7 +126,7 @@ fn sat_short(out: &mut [u8]) -> usize
     ensures { Put short_said 0 out.old result out.new }
 {
     let next = put_bytes(b"sat\n", out, 0);
-    error_line(Refusal::TOO_SHORT, 0, out, next)
+    error_line(Rule::TooShort.at(0), out, next)
 }
 
 // Puts what is said of an answer for n names at the front of out and answers its length. The bounds are two for each name: where its spelling starts in the text, and
@@ -150,7 +135,7 @@ pub fn say(
     text: &[u8],
     bounds: &[usize],
     n: usize,
-    answer: DecideAnswer,
+    answer: Result<Decision, Refusal>,
     word: &[u8],
     out: &mut [u8],
 ) -> usize
@@ -158,19 +143,21 @@ pub fn say(
     ensures { Put (said_of text.now bounds.now n answer word.now) 0 out.old result out.new }
 {
     match answer {
-        DecideAnswer::Found { states: _, letters } => sat(
+        Ok(Decision::Found { states: _, letters }) => sat(
             text,
             bounds,
             n,
             word_of(word, letters),
             out,
         ),
-        DecideAnswer::Never { states: _ } => put_bytes(b"unsat\n", out, 0),
-        DecideAnswer::NoRoom { states: _ } => put_bytes(b"unknown\n", out, 0),
-        DecideAnswer::Short {
-            states: _,
-            letters: _,
-        } => sat_short(out),
-        DecideAnswer::Refused(refusal) => error_line(refusal.number, refusal.place, out, 0),
+        Ok(Decision::Never { states: _ }) => put_bytes(b"unsat\n", out, 0),
+        Ok(Decision::NoRoom { states: _ }) => put_bytes(b"unknown\n", out, 0),
+        Ok(
+            Decision::Short {
+                states: _,
+                letters: _,
+            },
+        ) => sat_short(out),
+        Err(refusal) => error_line(refusal, out, 0),
     }
 }

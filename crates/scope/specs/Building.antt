@@ -1,8 +1,8 @@
 -- Document 01, "Deciding and building", of building: a table's rows, the rows lent, built or no room, and the lent areas after.
-use Rattle.std.specs.Prelude.{ℕ, zero, suc, ◌+◌, ◌/◌, min, Bool, true, false, cond, List, [], ◌∷◌, map, length, take, leb, ℤ}
+use Rattle.std.specs.Prelude.{ℕ, zero, suc, ◌+◌, ◌/◌, min, Bool, true, false, cond, List, [], ◌∷◌, map, length, take, leb, ℤ, Ok, Err, Result}
+use Rattle.scope.specs.declared.Refusal.{Refusal}
+use Rattle.scope.specs.declared.Building.{Building}
 use Rattle.scope.specs.declared.Question.{Question}
-use Rattle.scope.specs.declared.ReadAnswer.{ReadAnswer}
-use Rattle.scope.specs.declared.BuildAnswer.{BuildAnswer}
 use Rattle.scope.specs.Whole.{joined, at_front}
 use Rattle.scope.specs.Sizes.{most_states}
 use Rattle.scope.specs.Question.{atom_count}
@@ -37,19 +37,19 @@ unfoldable pub build_room : Question → List ℤ → List ℕ → ℕ
 build_room q keys table = min (min (length keys / atom_count q) (length table / table_width q.n)) most_states
 
 pub record Built : Type 0 where
-  pub answer : BuildAnswer
+  pub answer : Result Building Refusal
   pub keys : List ℤ
   pub table : List ℕ
 
 -- whether the reachable states are at most r comes first
 abbrev pub built_if : Bool → ℕ → Machine State → Rows State → List ℤ → List ℕ → Built
 built_if true r m l keys table = record {
-  answer = BuildAnswer.Built (length l);
+  answer = Ok (Building.Built (length l));
   keys = at_front (key_cells l) keys;
   table = at_front (table_cells m l) table;
 }
 built_if false r m l keys table = record {
-  answer = BuildAnswer.NoRoom r;
+  answer = Ok (Building.NoRoom r);
   keys = at_front (key_cells (take r l)) keys;
   table = table;
 }
@@ -62,9 +62,9 @@ built_question q keys table =
     built_if (leb (length l) r) r m l keys table
 
 -- a refused question changes no lent cell
-abbrev pub built_by : ReadAnswer → Question → List ℤ → List ℕ → Built
-built_by ReadAnswer.Accepted q keys table = built_question q keys table
-built_by (ReadAnswer.Refused r) q keys table = record { answer = BuildAnswer.Refused r; keys = keys; table = table }
+abbrev pub built_by : Result Question Refusal → List ℤ → List ℕ → Built
+built_by (Ok q) keys table = built_question q keys table
+built_by (Err r) keys table = record { answer = Err r; keys = keys; table = table }
 
 unfoldable pub built : List ℕ → List ℤ → List ℕ → Built
-built bytes keys table = let h = read_held bytes in built_by h.answer h.question keys table
+built bytes keys table = built_by (read_held bytes) keys table

@@ -1,9 +1,10 @@
 -- Document 01, "Checked by hand": the lines marked P, as one table and one claim. The questions are given as bytes and read.
-use Rattle.std.specs.Prelude.{ℕ, ◌≡◌, refl, List, [], ◌∷◌, ◌++◌, length, take, ℤ, pos, negsuc}
-use Rattle.scope.specs.declared.DecideAnswer.{DecideAnswer}
-use Rattle.scope.specs.declared.BuildAnswer.{BuildAnswer}
+use Rattle.std.specs.Prelude.{ℕ, ◌≡◌, refl, List, [], ◌∷◌, ◌++◌, map, length, take, ℤ, pos, negsuc, Ok}
+use Rattle.scope.specs.declared.Decision.{Decision}
+use Rattle.scope.specs.declared.Building.{Building}
 use Rattle.scope.specs.States.{dead_cell}
-use Rattle.scope.specs.Outcomes.{Outcome, decision, table, number, Line, line, all_given, wanted, key_mark, marked, decides, builds, half_of, running}
+use Rattle.scope.specs.Refusals.{rule_number}
+use Rattle.scope.specs.Outcomes.{Outcome, rules, decision, table, number, Line, line, all_given, wanted, key_mark, marked, decides, builds, half_of, running}
 
 -- ---- the questions
 
@@ -43,13 +44,13 @@ nought_x = 1 ∷ 0 ∷ 1 ∷ 0 ∷ 1 ∷ 8 ∷ 0 ∷ 16 ∷ 0 ∷ 0 ∷ 0 ∷ 0 
 
 -- the word buffer has room for four letters
 abbrev found : ℕ → List ℕ → List ℕ → Outcome
-found states word rest = decision (DecideAnswer.Found states (length word)) (word ++ rest)
+found states word rest = decision (Ok (Decision.Found states (length word))) (word ++ rest)
 
 abbrev never : ℕ → Outcome
-never states = decision (DecideAnswer.Never states) (marked 4)
+never states = decision (Ok (Decision.Never states)) (marked 4)
 
 abbrev no_room : ℕ → Outcome
-no_room states = decision (DecideAnswer.NoRoom states) (marked 4)
+no_room states = decision (Ok (Decision.NoRoom states)) (marked 4)
 
 -- the nine states of 5x + y = 3, in order
 abbrev nine : List ℤ
@@ -73,8 +74,8 @@ abbrev cases : List Line
 cases =
     line (decides fiveXPlus_y 16 4) (found 7 (2 ∷ 2 ∷ []) (marked 2)) ∷
     line (decides fiveXPlus_y 6 4) (no_room 6) ∷
-    line (builds fiveXPlus_y 10) (table (BuildAnswer.Built 9) (nine ++ (key_mark ∷ [])) (nine_rows ++ marked 5)) ∷
-    line (builds fiveXPlus_y 8) (table (BuildAnswer.NoRoom 8) (take 8 nine) (marked 40)) ∷
+    line (builds fiveXPlus_y 10) (table (Ok (Building.Built 9)) (nine ++ (key_mark ∷ [])) (nine_rows ++ marked 5)) ∷
+    line (builds fiveXPlus_y 8) (table (Ok (Building.NoRoom 8)) (take 8 nine) (marked 40)) ∷
     line (decides three_terms 16 4) (found 4 (2 ∷ []) (marked 3)) ∷
     line (decides twoXIs_one 16 4) (never 2) ∷
     line (decides twoXIs_one 1 4) (no_room 1) ∷
@@ -88,6 +89,9 @@ cases =
     line (half_of (pos 0)) (number (pos 0)) ∷
     line (half_of (pos 1)) (number (pos 0)) ∷
     []
+
+pub rules_in_order : map rule_number rules ≡ 1 ∷ 2 ∷ 3 ∷ 4 ∷ 5 ∷ 6 ∷ 7 ∷ 8 ∷ 9 ∷ 10 ∷ 11 ∷ 12 ∷ 13 ∷ 14 ∷ 15 ∷ []
+rules_in_order = refl
 
 pub cases_hold : all_given cases ≡ wanted cases
 unfolding running

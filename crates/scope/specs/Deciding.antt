@@ -1,9 +1,9 @@
 -- Document 01, "Deciding and building", of deciding: the rows lent, found, never and no room, and what each lent buffer holds after.
-use Rattle.std.specs.Prelude.{ℕ, suc, ◌/◌, min, Bool, true, false, List, [], ◌∷◌, map, length, take, leb, ℤ}
+use Rattle.std.specs.Prelude.{ℕ, suc, ◌/◌, min, Bool, true, false, List, [], ◌∷◌, map, length, take, leb, ℤ, Ok, Err, Result}
 use Rattle.std.proofs.Math.Option.{Option, none, some}
+use Rattle.scope.specs.declared.Refusal.{Refusal}
+use Rattle.scope.specs.declared.Decision.{Decision}
 use Rattle.scope.specs.declared.Question.{Question}
-use Rattle.scope.specs.declared.ReadAnswer.{ReadAnswer}
-use Rattle.scope.specs.declared.DecideAnswer.{DecideAnswer}
 use Rattle.scope.specs.Whole.{joined, at_front}
 use Rattle.scope.specs.Sizes.{most_states}
 use Rattle.scope.specs.Question.{atom_count}
@@ -49,24 +49,24 @@ path_cells l = joined (map (λ (r : Row State). r.from ∷ r.letter ∷ []) l)
 -- ---- deciding: the answer, and the key area, the path area and the word buffer afterwards
 
 pub record Decided : Type 0 where
-  pub answer : DecideAnswer
+  pub answer : Result Decision Refusal
   pub keys : List ℤ
   pub path : List ℕ
   pub word : List ℕ
 
 -- whether the word has room comes first
-abbrev pub found_answer : Bool → ℕ → Word → DecideAnswer
-found_answer true states w = DecideAnswer.Found states (length w)
-found_answer false states w = DecideAnswer.Short states (length w)
+abbrev pub found_answer : Bool → ℕ → Word → Result Decision Refusal
+found_answer true states w = Ok (Decision.Found states (length w))
+found_answer false states w = Ok (Decision.Short states (length w))
 
 abbrev pub found_word : Bool → Word → List ℕ → List ℕ
 found_word true w word = at_front w word
 found_word false w word = word
 
-abbrev pub decide_answer : Verdict → ℕ → Rows State → Machine State → List ℕ → DecideAnswer
+abbrev pub decide_answer : Verdict → ℕ → Rows State → Machine State → List ℕ → Result Decision Refusal
 decide_answer (found w) r l m word = found_answer (leb (length (word_of m l w)) (length word)) (suc w) (word_of m l w)
-decide_answer never r l m word = DecideAnswer.Never (length l)
-decide_answer no_room r l m word = DecideAnswer.NoRoom r
+decide_answer never r l m word = Ok (Decision.Never (length l))
+decide_answer no_room r l m word = Ok (Decision.NoRoom r)
 
 abbrev pub word_after : Verdict → Rows State → Machine State → List ℕ → List ℕ
 word_after (found w) l m word = found_word (leb (length (word_of m l w)) (length word)) (word_of m l w) word
@@ -88,9 +88,9 @@ decided_question q keys path word =
     }
 
 -- a refused question changes no lent cell
-abbrev pub decided_by : ReadAnswer → Question → List ℤ → List ℕ → List ℕ → Decided
-decided_by ReadAnswer.Accepted q keys path word = decided_question q keys path word
-decided_by (ReadAnswer.Refused r) q keys path word = record { answer = DecideAnswer.Refused r; keys = keys; path = path; word = word }
+abbrev pub decided_by : Result Question Refusal → List ℤ → List ℕ → List ℕ → Decided
+decided_by (Ok q) keys path word = decided_question q keys path word
+decided_by (Err r) keys path word = record { answer = Err r; keys = keys; path = path; word = word }
 
 unfoldable pub decided : List ℕ → List ℤ → List ℕ → List ℕ → Decided
-decided bytes keys path word = let h = read_held bytes in decided_by h.answer h.question keys path word
+decided bytes keys path word = decided_by (read_held bytes) keys path word

@@ -1,16 +1,11 @@
 -- The edges of document 01, and of document 02, E1, worked by hand: of two checks that both fail the earlier one counts, each limit and the first number
 -- beyond it, of bytes and of trees, and running, which the outside vectors leave out. One table, one claim.
-use Rattle.std.specs.Prelude.{ℕ, zero, suc, ◌-◌, ◌≡◌, refl, true, false, List, [], ◌∷◌, ◌++◌, length, replicate, set, ℤ, pos, negsuc}
+use Rattle.std.specs.Prelude.{ℕ, zero, suc, ◌-◌, ◌≡◌, refl, true, false, List, [], ◌∷◌, ◌++◌, length, replicate, set, ℤ, pos, negsuc, Ok, Err}
 use Rattle.scope.specs.declared.Question.{Question}
-use Rattle.scope.specs.declared.ReadAnswer.{ReadAnswer}
-use Rattle.scope.specs.declared.WriteAnswer.{WriteAnswer}
-use Rattle.scope.specs.declared.TruthAnswer.{TruthAnswer}
-use Rattle.scope.specs.declared.SpellAnswer.{SpellAnswer}
 use Rattle.scope.specs.Whole.{joined}
-use Rattle.scope.specs.Question.{empty_question, equation, at_most}
+use Rattle.scope.specs.Question.{equation, at_most}
 use Rattle.scope.specs.Tree.{Tree}
-use Rattle.scope.specs.Refusals.{refusal}
-use Rattle.scope.specs.Outcomes.{Outcome, held, wrote_bytes, truth, spelling, count, tree, holding, Line, line, all_given, wanted, marked, reads, writes, judges, spells, runs, bounds, asks, fits_limits, says_tree, running}
+use Rattle.scope.specs.Outcomes.{Outcome, numbered_refusal, held, wrote_bytes, truth, spelling, count, tree, holding, Line, line, all_given, wanted, marked, reads, writes, judges, spells, runs, bounds, asks, fits_limits, says_tree, running}
 
 -- ---- bytes of questions, over one variable where nothing else is said
 
@@ -89,7 +84,7 @@ broad last = Tree.or (Tree.or (under 13 x) (under 13 x)) (Tree.or (under 13 x) (
 -- ---- outcomes
 
 abbrev refused_at : ℕ → ℕ → Outcome
-refused_at number place = held (record { answer = ReadAnswer.Refused (refusal number place); question = empty_question })
+refused_at number place = held (Err (numbered_refusal number place))
 
 -- the question with these codes and numbers, and zeros after them
 abbrev over : ℕ → List ℕ → List ℤ → List ℤ → Question
@@ -101,16 +96,16 @@ over n codes coefficients constants = record {
 }
 
 abbrev accepted : Question → Outcome
-accepted q = held (record { answer = ReadAnswer.Accepted; question = q })
+accepted q = held (Ok q)
 
 abbrev unwritten : ℕ → ℕ → Outcome
-unwritten number place = wrote_bytes (record { answer = WriteAnswer.Refused (refusal number place); buffer = marked 4 })
+unwritten number place = wrote_bytes (record { answer = Err (numbered_refusal number place); buffer = marked 4 })
 
 abbrev refused_truth : ℕ → ℕ → Outcome
-refused_truth number place = truth (TruthAnswer.Refused (refusal number place))
+refused_truth number place = truth (Err (numbered_refusal number place))
 
 abbrev unspelled : ℕ → Outcome
-unspelled number = spelling (SpellAnswer.Refused (refusal number 0))
+unspelled number = spelling (Err (numbered_refusal number 0))
 
 -- the table of x = 0
 abbrev nought : List ℕ
@@ -180,15 +175,15 @@ edges =
     line (judges (head_of 2 ++ (atom_in (within ∷ beyond ∷ []) within ++ end)) []) (refused_truth 12 13) ∷
     line (judges (head ++ (atom ++ end)) []) (refused_truth 9 0) ∷
     line (judges (head ++ (atom ++ end)) (1099511627776 ∷ [])) (refused_truth 9 0) ∷
-    line (judges (head ++ (atom ++ end)) (1099511627775 ∷ [])) (truth TruthAnswer.Yes) ∷
+    line (judges (head ++ (atom ++ end)) (1099511627775 ∷ [])) (truth (Ok true)) ∷
     -- spelling: 4, then 10, then 9
     line (spells 0 1 (9 ∷ [])) (unspelled 4) ∷
     line (spells 2 3 (9 ∷ [])) (unspelled 4) ∷
     line (spells 2 0 []) (unspelled 4) ∷
     line (spells 2 2 (replicate 65 4)) (unspelled 10) ∷
     line (spells 2 2 (replicate 65 3)) (unspelled 9) ∷
-    line (spells 2 2 (replicate 64 3)) (spelling (SpellAnswer.Value 18446744073709551615)) ∷
-    line (spells 6 6 (31 ∷ 32 ∷ 63 ∷ [])) (spelling (SpellAnswer.Value 6)) ∷
+    line (spells 2 2 (replicate 64 3)) (spelling (Ok 18446744073709551615)) ∷
+    line (spells 6 6 (31 ∷ 32 ∷ 63 ∷ [])) (spelling (Ok 6)) ∷
     -- running: 4, then 11, then 10
     line (runs 7 [] (9 ∷ [])) (refused_truth 4 0) ∷
     line (runs 1 [] (9 ∷ [])) (refused_truth 11 0) ∷
@@ -197,10 +192,10 @@ edges =
     line (runs 1 (set nought 0 2) []) (refused_truth 11 0) ∷
     line (runs 1 (set nought 5 2) []) (refused_truth 11 0) ∷
     line (runs 1 nought (0 ∷ 2 ∷ [])) (refused_truth 10 0) ∷
-    line (runs 1 nought []) (truth TruthAnswer.Yes) ∷
-    line (runs 1 nought (0 ∷ 0 ∷ [])) (truth TruthAnswer.Yes) ∷
-    line (runs 1 nought (0 ∷ 1 ∷ 0 ∷ [])) (truth TruthAnswer.No) ∷
-    line (runs 1 nought (replicate 99 0)) (truth TruthAnswer.Yes) ∷
+    line (runs 1 nought []) (truth (Ok true)) ∷
+    line (runs 1 nought (0 ∷ 0 ∷ [])) (truth (Ok true)) ∷
+    line (runs 1 nought (0 ∷ 1 ∷ 0 ∷ [])) (truth (Ok false)) ∷
+    line (runs 1 nought (replicate 99 0)) (truth (Ok true)) ∷
     -- a tree: each limit, and the first number beyond it
     line (fits_limits 0 (Tree.atom (record { kind = equation; coefficients = []; constant = pos 0 }))) (holding false) ∷
     line (fits_limits 1 (one_atom (pos 0) (pos 0))) (holding true) ∷

@@ -1,75 +1,45 @@
 -- Document 01, "Refusal numbers", with those of document 02, E1 and E2: checks in their order, the first that fails gives the refusal; and, for
 -- each answer that is an enum, the number, the place and the values that the documents give for each of its cases.
-use Rattle.std.specs.Prelude.{ℕ, zero, suc, Bool, true, false, List, [], ◌∷◌}
+use Rattle.std.specs.Prelude.{ℕ, zero, suc, Bool, true, false, List, [], ◌∷◌, Ok, Err, Result}
 use Rattle.std.proofs.Math.Option.{Option, none, some}
+use Rattle.scope.specs.declared.Question.{Question}
+use Rattle.scope.specs.declared.Record.{Record}
+use Rattle.scope.specs.declared.Rule.{Rule}
+use Rattle.scope.specs.declared.Decision.{Decision}
+use Rattle.scope.specs.declared.Building.{Building}
 use Rattle.scope.specs.declared.Refusal.{Refusal}
-use Rattle.scope.specs.declared.RecordAnswer.{RecordAnswer}
-use Rattle.scope.specs.declared.ReadAnswer.{ReadAnswer}
-use Rattle.scope.specs.declared.WriteAnswer.{WriteAnswer}
-use Rattle.scope.specs.declared.TruthAnswer.{TruthAnswer}
-use Rattle.scope.specs.declared.DecideAnswer.{DecideAnswer}
-use Rattle.scope.specs.declared.BuildAnswer.{BuildAnswer}
-use Rattle.scope.specs.declared.SpellAnswer.{SpellAnswer}
 
 -- ---- the numbers
 
-abbrev pub BYTES_END : ℕ
-BYTES_END = 1
-
-abbrev pub NOT_DUE : ℕ
-NOT_DUE = 2
-
-abbrev pub BODY_LENGTH : ℕ
-BODY_LENGTH = 3
-
-abbrev pub BEYOND_LIMIT : ℕ
-BEYOND_LIMIT = 4
-
-abbrev pub TOO_MANY : ℕ
-TOO_MANY = 5
-
-abbrev pub LEFT_OVER : ℕ
-LEFT_OVER = 6
-
-abbrev pub NO_ROOM : ℕ
-NO_ROOM = 7
-
-abbrev pub TOO_SHORT : ℕ
-TOO_SHORT = 8
-
-abbrev pub VALUES : ℕ
-VALUES = 9
-
-abbrev pub LETTER : ℕ
-LETTER = 10
-
-abbrev pub TABLE : ℕ
-TABLE = 11
-
-abbrev pub COEFFICIENT_BEYOND : ℕ
-COEFFICIENT_BEYOND = 12
-
-abbrev pub CONSTANT_BEYOND : ℕ
-CONSTANT_BEYOND = 13
-
-abbrev pub NOT_WELL_FORMED : ℕ
-NOT_WELL_FORMED = 14
-
-abbrev pub OUTSIDE_SUBSET : ℕ
-OUTSIDE_SUBSET = 15
+abbrev pub rule_number : Rule → ℕ
+rule_number Rule.BytesEnd = 1
+rule_number Rule.NotDue = 2
+rule_number Rule.BodyLength = 3
+rule_number Rule.BeyondLimit = 4
+rule_number Rule.TooMany = 5
+rule_number Rule.LeftOver = 6
+rule_number Rule.NoRoom = 7
+rule_number Rule.TooShort = 8
+rule_number Rule.Values = 9
+rule_number Rule.Letter = 10
+rule_number Rule.Table = 11
+rule_number Rule.CoefficientBeyond = 12
+rule_number Rule.ConstantBeyond = 13
+rule_number Rule.NotWellFormed = 14
+rule_number Rule.OutsideSubset = 15
 
 -- ---- checks
 
 pub record Check : Type 0 where
-  pub number : ℕ
+  pub rule : Rule
   pub place : ℕ
   pub passed : Bool
 
-abbrev pub refusal : ℕ → ℕ → Refusal
-refusal number place = record { number = number; place = place }
+abbrev pub refusal : Rule → ℕ → Refusal
+refusal rule place = record { rule = rule; place = place }
 
-abbrev pub check : ℕ → ℕ → Bool → Check
-check number place passed = record { number = number; place = place; passed = passed }
+abbrev pub check : Rule → ℕ → Bool → Check
+check rule place passed = record { rule = rule; place = place; passed = passed }
 
 -- whether the check was passed comes first
 abbrev pub unless_passed : Bool → Refusal → Option Refusal → Option Refusal
@@ -78,7 +48,12 @@ unless_passed false r later = some r
 
 unfoldable pub first_refusal : List Check → Option Refusal
 first_refusal [] = none
-first_refusal (c ∷ cs) = unless_passed c.passed (refusal c.number c.place) (first_refusal cs)
+first_refusal (c ∷ cs) = unless_passed c.passed (refusal c.rule c.place) (first_refusal cs)
+
+-- an answer, where nothing is refused
+abbrev pub unless_refused : {A : Type 0} → Option Refusal → A → Result A Refusal
+unless_refused none a = Ok a
+unless_refused (some r) a = Err r
 
 -- ---- work that goes on step by step until it is refused or done
 
@@ -107,46 +82,46 @@ pub record Told : Type 0 where
   pub values : List ℕ
 
 abbrev pub refused : Refusal → Told
-refused r = record { number = r.number; place = r.place; values = [] }
+refused r = record { number = rule_number r.rule; place = r.place; values = [] }
 
 abbrev pub given : List ℕ → Told
 given values = record { number = 0; place = 0; values = values }
 
 -- a refusal that hands over values, and has no place
-abbrev pub refused_with : ℕ → List ℕ → Told
-refused_with number values = record { number = number; place = 0; values = values }
+abbrev pub refused_with : Rule → List ℕ → Told
+refused_with rule values = record { number = rule_number rule; place = 0; values = values }
 
-abbrev pub record_told : RecordAnswer → Told
-record_told (RecordAnswer.Record kind start len next) = given (kind ∷ start ∷ len ∷ next ∷ [])
-record_told (RecordAnswer.Refused r) = refused r
+abbrev pub record_told : Result Record Refusal → Told
+record_told (Ok r) = given (r.kind ∷ r.start ∷ r.len ∷ r.next ∷ [])
+record_told (Err r) = refused r
 
-abbrev pub read_told : ReadAnswer → Told
-read_told ReadAnswer.Accepted = given []
-read_told (ReadAnswer.Refused r) = refused r
+abbrev pub read_told : Result Question Refusal → Told
+read_told (Ok q) = given []
+read_told (Err r) = refused r
 
-abbrev pub write_told : WriteAnswer → Told
-write_told (WriteAnswer.Written count) = given (count ∷ [])
-write_told (WriteAnswer.Refused r) = refused r
+abbrev pub write_told : Result ℕ Refusal → Told
+write_told (Ok count) = given (count ∷ [])
+write_told (Err r) = refused r
 
 -- yes is 1 and no is 0, as in a table's accept cells
-abbrev pub truth_told : TruthAnswer → Told
-truth_told TruthAnswer.Yes = given (1 ∷ [])
-truth_told TruthAnswer.No = given (0 ∷ [])
-truth_told (TruthAnswer.Refused r) = refused r
+abbrev pub truth_told : Result Bool Refusal → Told
+truth_told (Ok true) = given (1 ∷ [])
+truth_told (Ok false) = given (0 ∷ [])
+truth_told (Err r) = refused r
 
 -- the states, and behind them the letters of a word that was found
-abbrev pub decide_told : DecideAnswer → Told
-decide_told (DecideAnswer.Found states letters) = given (states ∷ letters ∷ [])
-decide_told (DecideAnswer.Never states) = given (states ∷ [])
-decide_told (DecideAnswer.NoRoom states) = refused_with NO_ROOM (states ∷ [])
-decide_told (DecideAnswer.Short states letters) = refused_with TOO_SHORT (states ∷ letters ∷ [])
-decide_told (DecideAnswer.Refused r) = refused r
+abbrev pub decide_told : Result Decision Refusal → Told
+decide_told (Ok (Decision.Found states letters)) = given (states ∷ letters ∷ [])
+decide_told (Ok (Decision.Never states)) = given (states ∷ [])
+decide_told (Ok (Decision.NoRoom states)) = refused_with Rule.NoRoom (states ∷ [])
+decide_told (Ok (Decision.Short states letters)) = refused_with Rule.TooShort (states ∷ letters ∷ [])
+decide_told (Err r) = refused r
 
-abbrev pub build_told : BuildAnswer → Told
-build_told (BuildAnswer.Built states) = given (states ∷ [])
-build_told (BuildAnswer.NoRoom states) = refused_with NO_ROOM (states ∷ [])
-build_told (BuildAnswer.Refused r) = refused r
+abbrev pub build_told : Result Building Refusal → Told
+build_told (Ok (Building.Built states)) = given (states ∷ [])
+build_told (Ok (Building.NoRoom states)) = refused_with Rule.NoRoom (states ∷ [])
+build_told (Err r) = refused r
 
-abbrev pub spell_told : SpellAnswer → Told
-spell_told (SpellAnswer.Value value) = given (value ∷ [])
-spell_told (SpellAnswer.Refused r) = refused r
+abbrev pub spell_told : Result ℕ Refusal → Told
+spell_told (Ok value) = given (value ∷ [])
+spell_told (Err r) = refused r

@@ -1,11 +1,10 @@
 -- Document 01, "Deciding and building", of running: n, a table's cells and a word, without the question.
-use Rattle.std.specs.Prelude.{ℕ, ◌+◌, ◌*◌, ◌/◌, ◌%◌, Bool, true, false, cond, ◌&&◌, List, [], ◌∷◌, length, get_or, leb, ltb, eqb}
-use Rattle.std.proofs.Math.Option.{Option, none, some}
+use Rattle.std.specs.Prelude.{ℕ, ◌+◌, ◌*◌, ◌/◌, ◌%◌, Bool, cond, ◌&&◌, List, [], ◌∷◌, length, get_or, leb, ltb, eqb, Result}
+use Rattle.scope.specs.declared.Rule.{Rule}
 use Rattle.scope.specs.declared.Refusal.{Refusal}
-use Rattle.scope.specs.declared.TruthAnswer.{TruthAnswer}
 use Rattle.scope.specs.Whole.{all_from}
 use Rattle.scope.specs.Sizes.{most_states, variables_fit}
-use Rattle.scope.specs.Refusals.{BEYOND_LIMIT, LETTER, TABLE, Check, check, first_refusal}
+use Rattle.scope.specs.Refusals.{Check, check, first_refusal, unless_refused}
 use Rattle.scope.specs.Words.{Word, letters_fit}
 use Rattle.scope.specs.Building.{table_width}
 
@@ -30,16 +29,8 @@ row_after n cells s (letter ∷ w) = row_after n cells (get_or cells (s * table_
 unfoldable pub says_yes : ℕ → List ℕ → Word → Bool
 says_yes n cells w = eqb (get_or cells (row_after n cells 0 w * table_width n) 0) 1
 
-abbrev pub truth_of : Bool → TruthAnswer
-truth_of true = TruthAnswer.Yes
-truth_of false = TruthAnswer.No
-
-abbrev pub truth_or : Option Refusal → Bool → TruthAnswer
-truth_or none b = truth_of b
-truth_or (some r) b = TruthAnswer.Refused r
-
 abbrev pub run_checks : ℕ → List ℕ → Word → List Check
-run_checks n cells w = check BEYOND_LIMIT 0 (variables_fit n) ∷ check TABLE 0 (table_fits n cells) ∷ check LETTER 0 (letters_fit n w) ∷ []
+run_checks n cells w = check Rule.BeyondLimit 0 (variables_fit n) ∷ check Rule.Table 0 (table_fits n cells) ∷ check Rule.Letter 0 (letters_fit n w) ∷ []
 
-unfoldable pub ran : ℕ → List ℕ → Word → TruthAnswer
-ran n cells w = truth_or (first_refusal (run_checks n cells w)) (says_yes n cells w)
+unfoldable pub ran : ℕ → List ℕ → Word → Result Bool Refusal
+ran n cells w = unless_refused (first_refusal (run_checks n cells w)) (says_yes n cells w)

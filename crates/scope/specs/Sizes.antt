@@ -1,7 +1,7 @@
 -- Document 01, "Sizes": each limit named once.
 use Rattle.std.specs.Prelude.{ℕ, ◌+◌, ◌*◌, ◌^◌, Bool, ◌&&◌, List, leb, ℤ, pos, nat_abs}
 use Rattle.scope.specs.declared.Limits.{Limits}
-use Rattle.scope.specs.Whole.{all}
+use Rattle.std.specs.List.{list_all}
 
 abbrev pub most_variables : ℕ
 most_variables = 6
@@ -72,4 +72,4 @@ constant_fits k = leb (nat_abs k) most_constant
 
 -- the numbers of an atom
 unfoldable pub numbers_fit : List ℤ → ℤ → Bool
-numbers_fit coefficients constant = all coefficient_fits coefficients && constant_fits constant
+numbers_fit coefficients constant = list_all coefficient_fits coefficients && constant_fits constant

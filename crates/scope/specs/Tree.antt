@@ -3,7 +3,8 @@
 use Rattle.std.specs.Prelude.{ℕ, ◌+◌, max, ◌≡◌, Bool, ◌&&◌, ◌||◌, List, [], ◌∷◌, ◌++◌, map, length, replicate, T, leb, eqb, ℤ, pos}
 use Rattle.std.proofs.Math.Bool as bool
 use Rattle.scope.specs.declared.Question.{Question}
-use Rattle.scope.specs.Whole.{all, joined, at_front}
+use Rattle.scope.specs.Whole.{joined, at_front}
+use Rattle.std.specs.List.{list_all}
 use Rattle.scope.specs.Sizes.{most_variables, most_atoms, most_nodes, most_depth, variables_fit, numbers_fit}
 use Rattle.scope.specs.Question.{Node, code_of, empty_question, Atom}
 use Rattle.scope.specs.Wire.{head_kind, end_kind, kind_of}
@@ -48,7 +49,7 @@ within_limits n t =
     (leb (length (nodes_in t)) most_nodes &&
     (leb (length (atoms_in t)) most_atoms &&
     (leb (depth_of t) most_depth &&
-    all (atom_fits n) (atoms_in t))))
+    list_all (atom_fits n) (atoms_in t))))
 
 -- ---- its bytes: the head, the formula, the end
 

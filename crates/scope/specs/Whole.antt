@@ -21,11 +21,6 @@ even z = eqb (nat_abs z % 2) 0
 abbrev pub half : ℤ → ℤ
 half z = shr_z z 2
 
--- whether each element passes the test
-unfoldable pub all {ℓ} : {A : Type ℓ} → (A → Bool) → List A → Bool
-all f [] = true
-all f (a ∷ l) = f a && all f l
-
 -- whether each element passes the test of its index, which counts from i
 unfoldable pub all_from {ℓ} : {A : Type ℓ} → (ℕ → A → Bool) → ℕ → List A → Bool
 all_from f i [] = true

@@ -1,17 +1,15 @@
 -- Document 01, "A question on the wire", with document 02, E1: records, what is due, the checks at each record, and reading a question whole.
-use Rattle.std.specs.Prelude.{ℕ, zero, suc, ◌+◌, ◌*◌, Bool, true, false, not, cond, ◌||◌, List, [], ◌∷◌, ◌++◌, length, get_or, set, replicate, leb, ltb, eqb, ℤ}
-use Rattle.std.proofs.Math.Option.{Option, none, some}
+use Rattle.std.specs.Prelude.{ℕ, zero, suc, ◌+◌, ◌*◌, Bool, true, false, not, cond, ◌||◌, List, [], ◌∷◌, ◌++◌, length, get_or, set, replicate, leb, ltb, eqb, ℤ, Ok, Err, Result}
 use Rattle.std.proofs.lemmas.List.Edits.{sets}
 use Rattle.std.specs.Int.{w32}
 use Rattle.std.proofs.Common.{to_z}
+use Rattle.scope.specs.declared.Record.{Record}
+use Rattle.scope.specs.declared.Rule.{Rule}
 use Rattle.scope.specs.declared.Question.{Question}
 use Rattle.scope.specs.declared.Refusal.{Refusal}
-use Rattle.scope.specs.declared.RecordAnswer.{RecordAnswer}
-use Rattle.scope.specs.declared.ReadAnswer.{ReadAnswer}
-use Rattle.scope.specs.declared.Held.{Held}
 use Rattle.scope.specs.Sizes.{most_variables, most_atoms, most_nodes, most_depth, variables_fit, coefficient_fits, constant_fits}
 use Rattle.scope.specs.Question.{Node, atom, equation, at_most, unused, code_of, is_unused, is_atom, parts, empty_question}
-use Rattle.scope.specs.Refusals.{BYTES_END, NOT_DUE, BODY_LENGTH, BEYOND_LIMIT, TOO_MANY, LEFT_OVER, COEFFICIENT_BEYOND, CONSTANT_BEYOND, Check, check, refusal, first_refusal, Progress, stopped, going, ended, or_stopped, onward}
+use Rattle.scope.specs.Refusals.{Check, check, refusal, first_refusal, unless_refused, Progress, stopped, going, ended, or_stopped, onward}
 
 -- ---- little-endian numbers
 
@@ -45,24 +43,23 @@ header_there b at = leb (at + 4) (length b)
 abbrev pub body_there : List ℕ → ℕ → Bool
 body_there b at = leb (at + 4 + length_at b at) (length b)
 
-abbrev pub record_or : Option Refusal → List ℕ → ℕ → RecordAnswer
-record_or none b at = RecordAnswer.Record (kind_at b at) (at + 4) (length_at b at) (at + 4 + length_at b at)
-record_or (some r) b at = RecordAnswer.Refused r
+abbrev pub record_here : List ℕ → ℕ → Record
+record_here b at = record { kind = kind_at b at; start = at + 4; len = length_at b at; next = at + 4 + length_at b at }
 
 abbrev pub record_checks : List ℕ → ℕ → List Check
-record_checks b at = check BYTES_END at (header_there b at) ∷ check BYTES_END at (body_there b at) ∷ []
+record_checks b at = check Rule.BytesEnd at (header_there b at) ∷ check Rule.BytesEnd at (body_there b at) ∷ []
 
 -- a bare step
-unfoldable pub record_at : List ℕ → ℕ → RecordAnswer
-record_at b at = record_or (first_refusal (record_checks b at)) b at
+unfoldable pub record_at : List ℕ → ℕ → Result Record Refusal
+record_at b at = unless_refused (first_refusal (record_checks b at)) (record_here b at)
 
 -- in a question: whether the kind is one that is due, then the size of its body, and what is looked at later
 abbrev pub frame_checks : List ℕ → ℕ → Bool → ℕ → List Check → List Check
 frame_checks b at due size later =
-    check BYTES_END at (header_there b at) ∷
-    check NOT_DUE at due ∷
-    check BODY_LENGTH at (eqb (length_at b at) size) ∷
-    check BYTES_END at (body_there b at) ∷
+    check Rule.BytesEnd at (header_there b at) ∷
+    check Rule.NotDue at due ∷
+    check Rule.BodyLength at (eqb (length_at b at) size) ∷
+    check Rule.BytesEnd at (body_there b at) ∷
     later
 
 -- ---- kinds
@@ -112,16 +109,16 @@ grown x depth due s = record { nodes = s.nodes + 1; atoms = s.atoms + cond (is_a
 
 -- a 65th node
 abbrev pub place_check : ℕ → Shape → Check
-place_check place s = check TOO_MANY place (ltb s.nodes most_nodes)
+place_check place s = check Rule.TooMany place (ltb s.nodes most_nodes)
 
 -- a ninth atom or depth 17
 abbrev pub size_checks : ℕ → Node → ℕ → Shape → List Check → List Check
-size_checks place x depth s later = check TOO_MANY place (not (is_atom x) || ltb s.atoms most_atoms) ∷ check TOO_MANY place (leb depth most_depth) ∷ later
+size_checks place x depth s later = check Rule.TooMany place (not (is_atom x) || ltb s.atoms most_atoms) ∷ check Rule.TooMany place (leb depth most_depth) ∷ later
 
 -- an atom's numbers in field order (E1), the coefficients and then the constant: the first at `place`, each next one `apart` further on
 unfoldable pub field_checks : ℕ → ℕ → List ℤ → ℤ → List Check
-field_checks place apart [] constant = check CONSTANT_BEYOND place (constant_fits constant) ∷ []
-field_checks place apart (a ∷ coefficients) constant = check COEFFICIENT_BEYOND place (coefficient_fits a) ∷ field_checks (place + apart) apart coefficients constant
+field_checks place apart [] constant = check Rule.ConstantBeyond place (constant_fits constant) ∷ []
+field_checks place apart (a ∷ coefficients) constant = check Rule.CoefficientBeyond place (coefficient_fits a) ∷ field_checks (place + apart) apart coefficients constant
 
 abbrev pub atom_checks : ℕ → ℕ → Node → List ℤ → ℤ → List Check
 atom_checks place apart x coefficients constant = cond (is_atom x) (field_checks place apart coefficients constant) []
@@ -141,7 +138,7 @@ pub record Ended : Type 0 where
 
 -- the head: n
 abbrev pub head_checks : List ℕ → ℕ → List Check
-head_checks b at = frame_checks b at (eqb (kind_at b at) head_kind) 1 (check BEYOND_LIMIT at (variables_fit (byte_at b (at + 4))) ∷ [])
+head_checks b at = frame_checks b at (eqb (kind_at b at) head_kind) 1 (check Rule.BeyondLimit at (variables_fit (byte_at b (at + 4))) ∷ [])
 
 abbrev pub after_head : List ℕ → ℕ → Reading
 after_head b at = record {
@@ -221,7 +218,7 @@ read_from b at = onward (most_nodes + 1) (record_read b) (head_read b at)
 
 -- after the end, any byte left is refused, at that byte
 abbrev pub whole_checks : List ℕ → ℕ → List Check
-whole_checks b next = check LEFT_OVER next (leb (length b) next) ∷ []
+whole_checks b next = check Rule.LeftOver next (leb (length b) next) ∷ []
 
 unfoldable pub whole_read : List ℕ → Progress Reading Ended → Progress Reading Ended
 whole_read b (stopped r) = stopped r
@@ -229,10 +226,15 @@ whole_read b (going s) = going s
 whole_read b (ended e) = or_stopped (first_refusal (whole_checks b e.next)) (ended e)
 
 -- (nothing is left going: a 65th node is refused)
-abbrev pub held_of : Progress Reading Ended → Held
-held_of (stopped r) = record { answer = ReadAnswer.Refused r; question = empty_question }
-held_of (going s) = record { answer = ReadAnswer.Refused (refusal TOO_MANY s.place); question = empty_question }
-held_of (ended e) = record { answer = ReadAnswer.Accepted; question = e.question }
+abbrev pub held_of : Progress Reading Ended → Result Question Refusal
+held_of (stopped r) = Err r
+held_of (going s) = Err (refusal Rule.TooMany s.place)
+held_of (ended e) = Ok e.question
 
-unfoldable pub read_held : List ℕ → Held
+unfoldable pub read_held : List ℕ → Result Question Refusal
 read_held b = held_of (whole_read b (read_from b 0))
+
+-- the question that is held then: the empty one where it was refused
+abbrev pub question_held : Result Question Refusal → Question
+question_held (Ok q) = q
+question_held (Err r) = empty_question

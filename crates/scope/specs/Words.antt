@@ -1,11 +1,10 @@
 -- Document 01, "Words and letters": digits, letters, what a word spells, the order of words; and spelling, the call.
-use Rattle.std.specs.Prelude.{ℕ, zero, suc, ◌+◌, ◌-◌, ◌*◌, ◌/◌, ◌%◌, ◌^◌, ◌<◌, ◌≡◌, Bool, ◌&&◌, List, [], ◌∷◌, ◌++◌, length, leb, ltb}
-use Rattle.std.proofs.Math.Option.{Option, none, some}
+use Rattle.std.specs.Prelude.{ℕ, zero, suc, ◌+◌, ◌-◌, ◌*◌, ◌/◌, ◌%◌, ◌^◌, ◌<◌, ◌≡◌, Bool, ◌&&◌, List, [], ◌∷◌, ◌++◌, length, leb, ltb, Result}
+use Rattle.scope.specs.declared.Rule.{Rule}
 use Rattle.scope.specs.declared.Refusal.{Refusal}
-use Rattle.scope.specs.declared.SpellAnswer.{SpellAnswer}
-use Rattle.scope.specs.Whole.{all}
+use Rattle.std.specs.List.{list_all}
 use Rattle.scope.specs.Sizes.{most_spelled, variables_fit}
-use Rattle.scope.specs.Refusals.{BEYOND_LIMIT, VALUES, LETTER, Check, check, first_refusal}
+use Rattle.scope.specs.Refusals.{Check, check, first_refusal, unless_refused}
 
 infixl 45 ◌▹◌
 infix 20 ◌≺◌
@@ -69,21 +68,17 @@ pub data Over (k : ℕ) : Word → Type 0 where
   over-∷ : {a : ℕ} {w : Word} → a < k → Over k w → Over k (a ∷ w)
 
 abbrev pub letters_fit : ℕ → Word → Bool
-letters_fit n w = all (λ letter. ltb letter (letters n)) w
+letters_fit n w = list_all (λ letter. ltb letter (letters n)) w
 
 -- ---- spelling: n, a variable from 1 to n, and a word
 
-abbrev pub value_or : Option Refusal → ℕ → SpellAnswer
-value_or none v = SpellAnswer.Value v
-value_or (some r) v = SpellAnswer.Refused r
-
 abbrev pub spell_checks : ℕ → ℕ → Word → List Check
 spell_checks n variable w =
-    check BEYOND_LIMIT 0 (variables_fit n) ∷
-    check BEYOND_LIMIT 0 (leb 1 variable && leb variable n) ∷
-    check LETTER 0 (letters_fit n w) ∷
-    check VALUES 0 (leb (length w) most_spelled) ∷
+    check Rule.BeyondLimit 0 (variables_fit n) ∷
+    check Rule.BeyondLimit 0 (leb 1 variable && leb variable n) ∷
+    check Rule.Letter 0 (letters_fit n w) ∷
+    check Rule.Values 0 (leb (length w) most_spelled) ∷
     []
 
-unfoldable pub spelt : ℕ → ℕ → Word → SpellAnswer
-spelt n variable w = value_or (first_refusal (spell_checks n variable w)) (value w (variable - 1))
+unfoldable pub spelt : ℕ → ℕ → Word → Result ℕ Refusal
+spelt n variable w = unless_refused (first_refusal (spell_checks n variable w)) (value w (variable - 1))

@@ -1,13 +1,14 @@
 -- Document 01, "A question on the wire", with document 02, E1, of writing a held question: its checks in their order, the bytes, and the buffer after.
-use Rattle.std.specs.Prelude.{ℕ, zero, suc, ◌+◌, ◌/◌, ◌%◌, ◌-◌, Bool, true, false, not, cond, ◌||◌, ◌&&◌, List, [], ◌∷◌, ◌++◌, map, length, get_or, leb, ltb, eqb, ℤ, pos}
+use Rattle.std.specs.Prelude.{ℕ, zero, suc, ◌+◌, ◌/◌, ◌%◌, ◌-◌, Bool, true, false, not, cond, ◌||◌, ◌&&◌, List, [], ◌∷◌, ◌++◌, map, length, get_or, leb, ltb, eqb, ℤ, pos, Ok, Err, Result}
 use Rattle.std.specs.Int.{w32}
 use Rattle.std.proofs.Common.{of_z}
+use Rattle.scope.specs.declared.Refusal.{Refusal}
+use Rattle.scope.specs.declared.Rule.{Rule}
 use Rattle.scope.specs.declared.Question.{Question}
-use Rattle.scope.specs.declared.WriteAnswer.{WriteAnswer}
 use Rattle.scope.specs.Whole.{eq_z, all_from, joined, at_front}
 use Rattle.scope.specs.Sizes.{most_variables, most_nodes, variables_fit}
 use Rattle.scope.specs.Question.{Node, node_of, is_unused, is_atom, coefficients_of, constant_of}
-use Rattle.scope.specs.Refusals.{NOT_DUE, BEYOND_LIMIT, TOO_MANY, LEFT_OVER, TOO_SHORT, Check, check, refusal, first_refusal, Progress, stopped, going, ended, or_stopped, onward}
+use Rattle.scope.specs.Refusals.{Check, check, refusal, first_refusal, Progress, stopped, going, ended, or_stopped, onward}
 use Rattle.scope.specs.Wire.{Shape, unread, grown, place_check, size_checks, head_kind, end_kind, kind_of, atom_checks}
 
 -- ---- the bytes
@@ -37,7 +38,7 @@ pub record Walk : Type 0 where
 
 -- the head: n
 abbrev pub head_held_checks : Question → List Check
-head_held_checks q = check BEYOND_LIMIT 0 (variables_fit q.n) ∷ []
+head_held_checks q = check Rule.BeyondLimit 0 (variables_fit q.n) ∷ []
 
 abbrev pub first_walk : Question → Walk
 first_walk q = record { shape = unread; bytes = record_bytes head_kind (q.n ∷ []) }
@@ -56,7 +57,7 @@ node_held_checks q depth w =
     let x = node_held q w in
     let a = w.shape.atoms in
     place_check i w.shape ∷
-    check NOT_DUE i (not (is_unused x)) ∷
+    check Rule.NotDue i (not (is_unused x)) ∷
     size_checks i x depth w.shape
     (atom_checks i 0 x (coefficients_of q a) (constant_of q a))
 
@@ -78,7 +79,7 @@ part_written q w = due_written q w.shape.due w
 -- a code after the formula that is not zero, at its own place: the count codes from i on
 unfoldable pub code_checks : ℕ → List ℕ → ℕ → List Check → List Check
 code_checks zero codes i later = later
-code_checks (suc count) codes i later = check LEFT_OVER i (eqb (get_or codes i 0) 0) ∷ code_checks count codes (suc i) later
+code_checks (suc count) codes i later = check Rule.LeftOver i (eqb (get_or codes i 0) 0) ∷ code_checks count codes (suc i) later
 
 -- cell c of the coefficients is one of n in the row of one of the first atoms; the others are zero
 abbrev pub coefficient_used : ℕ → ℕ → ℕ → Bool
@@ -89,14 +90,14 @@ numbers_clear q atoms =
     all_from (λ c z. coefficient_used q.n atoms c || eq_z z (pos 0)) 0 q.coefficients && all_from (λ i z. ltb i atoms || eq_z z (pos 0)) 0 q.constants
 
 abbrev pub number_checks : Question → ℕ → List Check
-number_checks q atoms = check LEFT_OVER most_nodes (numbers_clear q atoms) ∷ []
+number_checks q atoms = check Rule.LeftOver most_nodes (numbers_clear q atoms) ∷ []
 
 unfoldable pub left_over_checks : Question → Shape → List Check
 left_over_checks q s = code_checks (most_nodes - s.nodes) q.codes s.nodes (number_checks q s.atoms)
 
 unfoldable pub end_written : Question → Progress Walk Walk → Progress Walk Walk
 end_written q (stopped r) = stopped r
-end_written q (going w) = stopped (refusal TOO_MANY most_nodes)
+end_written q (going w) = stopped (refusal Rule.TooMany most_nodes)
 end_written q (ended w) = or_stopped (first_refusal (left_over_checks q w.shape)) (ended (record { shape = w.shape; bytes = w.bytes ++ record_bytes end_kind [] }))
 
 -- no more than 64 nodes, and the end of the formula
@@ -106,17 +107,17 @@ written q = end_written q (onward (most_nodes + 1) (part_written q) (head_writte
 -- ---- writing into a buffer, which has room for some bytes
 
 pub record Wrote : Type 0 where
-  pub answer : WriteAnswer
+  pub answer : Result ℕ Refusal
   pub buffer : List ℕ
 
 -- whether the bytes have room comes first
 abbrev pub fitted : Bool → List ℕ → List ℕ → Wrote
-fitted true bytes buffer = record { answer = WriteAnswer.Written (length bytes); buffer = at_front bytes buffer }
-fitted false bytes buffer = record { answer = WriteAnswer.Refused (refusal TOO_SHORT 0); buffer = buffer }
+fitted true bytes buffer = record { answer = Ok (length bytes); buffer = at_front bytes buffer }
+fitted false bytes buffer = record { answer = Err (refusal Rule.TooShort 0); buffer = buffer }
 
 abbrev pub wrote_of : Progress Walk Walk → List ℕ → Wrote
-wrote_of (stopped r) buffer = record { answer = WriteAnswer.Refused r; buffer = buffer }
-wrote_of (going w) buffer = record { answer = WriteAnswer.Refused (refusal TOO_MANY most_nodes); buffer = buffer }
+wrote_of (stopped r) buffer = record { answer = Err r; buffer = buffer }
+wrote_of (going w) buffer = record { answer = Err (refusal Rule.TooMany most_nodes); buffer = buffer }
 wrote_of (ended w) buffer = fitted (leb (length w.bytes) (length buffer)) w.bytes buffer
 
 unfoldable pub wrote : Question → List ℕ → Wrote

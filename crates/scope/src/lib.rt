@@ -5,6 +5,7 @@
 ghost use Rattle.std.specs.Prelude.{◌≡◌, ◌^◌, ◌≤◌};
 ghost use Rattle.scope.specs.Sizes.{limits, most_letters, most_variables};
 ghost use Rattle.scope.specs.Question.{node_of, is_atom, empty_question};
+ghost use Rattle.scope.specs.Refusals.{rule_number, refusal};
 
 // A held question. Unused entries are zero.
 #[derive(Clone, Copy)]
@@ -102,105 +103,69 @@ pub struct Limits {
     pub bytes: usize,
 }
 
-// Why a call was refused: the documents' number, and the place.
-#[derive(Clone, Copy)]
+// The rules of the documents that a call is refused by, each with its number.
+#[derive(Clone, Copy, PartialEq, Eq, Debug)]
+pub enum Rule {
+    BytesEnd = 1,
+    NotDue = 2,
+    BodyLength = 3,
+    BeyondLimit = 4,
+    TooMany = 5,
+    LeftOver = 6,
+    NoRoom = 7,
+    TooShort = 8,
+    Values = 9,
+    Letter = 10,
+    Table = 11,
+    CoefficientBeyond = 12,
+    ConstantBeyond = 13,
+    NotWellFormed = 14,
+    OutsideSubset = 15,
+}
+
+impl Rule {
+    pub fn number(self) -> u8
+        ensures { result ≡ rule_number self }
+    {
+        self as u8
+    }
+
+    // Broken at a place.
+    pub fn at(self, place: usize) -> Refusal
+        ensures { result ≡ refusal self place }
+    {
+        Refusal { rule: self, place }
+    }
+}
+
+// Why a call was refused: the rule that was broken, and the place.
+#[derive(Clone, Copy, PartialEq, Eq, Debug)]
 pub struct Refusal {
-    pub number: u8,
+    pub rule: Rule,
     pub place: usize,
 }
 
-impl Refusal {
-    pub const BYTES_END: u8 = 1;
-
-    pub const NOT_DUE: u8 = 2;
-
-    pub const BODY_LENGTH: u8 = 3;
-
-    pub const BEYOND_LIMIT: u8 = 4;
-
-    pub const TOO_MANY: u8 = 5;
-
-    pub const LEFT_OVER: u8 = 6;
-
-    pub const NO_ROOM: u8 = 7;
-
-    pub const TOO_SHORT: u8 = 8;
-
-    pub const VALUES: u8 = 9;
-
-    pub const LETTER: u8 = 10;
-
-    pub const TABLE: u8 = 11;
-
-    pub const COEFFICIENT_BEYOND: u8 = 12;
-
-    pub const CONSTANT_BEYOND: u8 = 13;
-
-    pub const NOT_WELL_FORMED: u8 = 14;
-
-    pub const OUTSIDE_SUBSET: u8 = 15;
+// A record: its kind, where the body starts, its length, and where the next record starts.
+#[derive(Clone, Copy, PartialEq, Eq, Debug)]
+pub struct Record {
+    pub kind: u16,
+    pub start: usize,
+    pub len: usize,
+    pub next: usize,
 }
 
-// A record step: the kind, where the body starts, its length, and where the next record starts.
-#[derive(Clone, Copy)]
-pub enum RecordAnswer {
-    Record {
-        kind: u16,
-        start: usize,
-        len: usize,
-        next: usize,
-    },
-    Refused(Refusal),
-}
-
-#[derive(Clone, Copy)]
-pub enum ReadAnswer {
-    Accepted,
-    Refused(Refusal),
-}
-
-// What reading gives: its answer, and the question that was read, which is empty where it was refused.
-#[derive(Clone, Copy)]
-pub struct Held {
-    pub answer: ReadAnswer,
-    pub question: Question,
-}
-
-// Writing: how many bytes were written.
-#[derive(Clone, Copy)]
-pub enum WriteAnswer {
-    Written(usize),
-    Refused(Refusal),
-}
-
-// Judging and running.
-#[derive(Clone, Copy)]
-pub enum TruthAnswer {
-    Yes,
-    No,
-    Refused(Refusal),
-}
-
-// Deciding: the states counted and, for found, the letters of the word. Short: the word buffer is too short for it.
-#[derive(Clone, Copy)]
-pub enum DecideAnswer {
+// What deciding says: the states counted and, for found, the letters of the word. Short: the word buffer is too short for it.
+#[derive(Clone, Copy, PartialEq, Eq, Debug)]
+pub enum Decision {
     Found { states: usize, letters: usize },
     Never { states: usize },
     NoRoom { states: usize },
     Short { states: usize, letters: usize },
-    Refused(Refusal),
 }
 
-// Building: the states counted.
-#[derive(Clone, Copy)]
-pub enum BuildAnswer {
+// What building says: the states counted.
+#[derive(Clone, Copy, PartialEq, Eq, Debug)]
+pub enum Building {
     Built { states: usize },
     NoRoom { states: usize },
-    Refused(Refusal),
-}
-
-#[derive(Clone, Copy)]
-pub enum SpellAnswer {
-    Value(u64),
-    Refused(Refusal),
 }

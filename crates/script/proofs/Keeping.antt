@@ -21,31 +21,30 @@ use Rattle.smtlib.specs.Script.{unless, nameable, name_in, Stage, Declaration, S
 use Rattle.smtlib.specs.Imported.{spelt_from}
 use Rattle.smtlib.specs.Names.{Distinct, distinct_more}
 use Rattle.smtlib.specs.Laws.{lower_of, lowest_append}
-use Rattle.lexicon.specs.declared.Spot.{Spot}
-use Rattle.lexicon.specs.Spots.{spot_of, stretch}
+use Rattle.lexicon.specs.Spots.{Position, spot_of, stretch}
 use Rattle.forms.specs.declared.Form.{Form}
 use Rattle.forms.specs.Read.{SYMBOL}
 use Rattle.terms.specs.Names.{name_at, names_in}
+use Rattle.script.specs.declared.Phase.{Phase}
 use Rattle.script.specs.declared.Kept.{Kept}
 use Rattle.script.specs.Parts.{word_in, part_in, WordIs, list_here, numeral_here, symbol_here, reserved_here, other_here, PartSays}
-use Rattle.script.specs.Kept.{stage_code, check_place, declaration_at, declarations_from, declarations_in, KeptWhole, Keeps}
+use Rattle.script.specs.Kept.{phase_of, declaration_at, declarations_from, declarations_in, KeptWhole, Keeps}
 use Rattle.script.specs.Declarations.{declared_names_lem, kept_count, kept_names, declared_alike, declared_more, declared_signed}
 use Rattle.script.specs.Changes.{signing, asserting}
 
 -- ---- the lower of two
 
-abbrev pub Lower : Spot → Spot → Spot → Type 0
+abbrev pub Lower : Position → Position → Position → Type 0
 Lower a b r = (x y : Option ℕ) → a ≡ spot_of x → b ≡ spot_of y → r ≡ spot_of (lower_of x y)
 
-pub lower_more : (a b r : Spot) (k l : List ℕ) → Lower a b r → a ≡ spot_of (lowest_of k) → b ≡ spot_of (lowest_of l) → r ≡ spot_of (lowest_of (k ++ l))
+pub lower_more : (a b r : Position) (k l : List ℕ) → Lower a b r → a ≡ spot_of (lowest_of k) → b ≡ spot_of (lowest_of l) → r ≡ spot_of (lowest_of (k ++ l))
 lower_more a b r k l h e f = h (lowest_of k) (lowest_of l) e f ∙ ap spot_of (sym (lowest_append k l))
 
--- ---- records with another stage, another number of assertions and other places of 15; with a name signed; with another place of 4, and a name
+-- ---- records with another phase, another number of assertions and other places of 15; with a name signed; with another place of 4, and a name
 
-abbrev pub turned : Kept → ℕ → ℕ → ℕ → Spot → Kept
-turned k code check asserted outside = record {
-  stage = code;
-  check = check;
+abbrev pub turned : Kept → Phase → ℕ → Position → Kept
+turned k phase asserted outside = record {
+  phase = phase;
   count = k.count;
   bounds = k.bounds;
   places = k.places;
@@ -58,8 +57,7 @@ turned k code check asserted outside = record {
 
 abbrev pub signed_at : Kept → ℕ → Kept
 signed_at k i = record {
-  stage = k.stage;
-  check = k.check;
+  phase = k.phase;
   count = k.count;
   bounds = k.bounds;
   places = k.places;
@@ -70,10 +68,9 @@ signed_at k i = record {
   beyond = k.beyond;
 }
 
-abbrev pub beyond_at : Kept → Spot → Kept
+abbrev pub beyond_at : Kept → Position → Kept
 beyond_at k beyond = record {
-  stage = k.stage;
-  check = k.check;
+  phase = k.phase;
   count = k.count;
   bounds = k.bounds;
   places = k.places;
@@ -84,10 +81,9 @@ beyond_at k beyond = record {
   beyond = beyond;
 }
 
-abbrev pub named_at : Kept → ℕ → Form → Spot → Kept
+abbrev pub named_at : Kept → ℕ → Form → Position → Kept
 named_at k at n beyond = record {
-  stage = k.stage;
-  check = k.check;
+  phase = k.phase;
   count = k.count + 1;
   bounds = set (set k.bounds (2 * k.count) n.from) (2 * k.count + 1) n.to;
   places = set k.places k.count at;
@@ -117,20 +113,19 @@ nameable_symbol text f w (other_here e) n = absurd (true≢false (sym n))
 -- ---- every script that is kept
 
 module _ {text : List ℕ} {s : Script} {k : Kept} (keeps : Keeps text s k) where
-  still_whole : (code check asserted : ℕ) (outside beyond : Spot) → KeptWhole (turned (beyond_at k beyond) code check asserted outside)
-  still_whole code check asserted outside beyond = record {
+  still_whole : (phase : Phase) (asserted : ℕ) (outside beyond : Position) → KeptWhole (turned (beyond_at k beyond) phase asserted outside)
+  still_whole phase asserted outside beyond = record {
     bounds_length = keeps.whole.bounds_length;
     places_length = keeps.whole.places_length;
     tokens_length = keeps.whole.tokens_length;
     signed_length = keeps.whole.signed_length;
   }
 
-  pub moved_kept : (stage : Stage) (places : List ℕ) (code check : ℕ) (fault outside : Spot) → Lower k.outside fault outside
-      → code ≡ stage_code stage → check ≡ check_place stage → fault ≡ spot_of (lowest_of places) → Keeps text (moved stage places s) (turned k code check k.asserted outside)
-  moved_kept stage places code check fault outside l e f g = record {
-    whole = still_whole code check k.asserted outside k.beyond;
-    stage_is = e;
-    check_is = f;
+  pub moved_kept : (stage : Stage) (places : List ℕ) (phase : Phase) (fault outside : Position) → Lower k.outside fault outside
+      → phase ≡ phase_of stage → fault ≡ spot_of (lowest_of places) → Keeps text (moved stage places s) (turned k phase k.asserted outside)
+  moved_kept stage places phase fault outside l e g = record {
+    whole = still_whole phase k.asserted outside k.beyond;
+    phase_is = e;
     declarations_are = keeps.declarations_are;
     names_stand = keeps.names_stand;
     spelt_from = keeps.spelt_from;
@@ -140,12 +135,11 @@ module _ {text : List ℕ} {s : Script} {k : Kept} (keeps : Keeps text s k) wher
     beyond_is = keeps.beyond_is;
   }
 
-  pub asserted_kept : (c : Clause) (fault outside : Spot) → Lower k.outside fault outside → fault ≡ spot_of (lowest_of c.faults)
-      → Keeps text (asserting c s) (turned k k.stage k.check (k.asserted + 1) outside)
+  pub asserted_kept : (c : Clause) (fault outside : Position) → Lower k.outside fault outside → fault ≡ spot_of (lowest_of c.faults)
+      → Keeps text (asserting c s) (turned k k.phase (k.asserted + 1) outside)
   asserted_kept c fault outside l g = record {
-    whole = still_whole k.stage k.check (k.asserted + 1) outside k.beyond;
-    stage_is = keeps.stage_is;
-    check_is = keeps.check_is;
+    whole = still_whole k.phase (k.asserted + 1) outside k.beyond;
+    phase_is = keeps.phase_is;
     declarations_are = keeps.declarations_are;
     names_stand = keeps.names_stand;
     spelt_from = keeps.spelt_from;
@@ -180,8 +174,7 @@ module _ {text : List ℕ} {s : Script} {k : Kept} (keeps : Keeps text s k) wher
         tokens_length = keeps.whole.tokens_length;
         signed_length = length-set k.signed i true ∙ keeps.whole.signed_length;
       };
-      stage_is = keeps.stage_is;
-      check_is = keeps.check_is;
+      phase_is = keeps.phase_is;
       declarations_are = signed_are;
       names_stand = keeps.names_stand;
       spelt_from = keeps.spelt_from;
@@ -194,7 +187,7 @@ module _ {text : List ℕ} {s : Script} {k : Kept} (keeps : Keeps text s k) wher
   -- ---- another name
 
   module _ (at : ℕ) (n : Form) (says : PartSays text n) (known : nameable (word_in text n) ≡ true) (new : is_in (name_in (word_in text n)) (names_of s.declarations) ≡ false)
-      (beyond : Spot) (lowest : beyond ≡ spot_of (lowest_of (s.beyond ++ unless (ltb k.count most_variables) n.place))) where
+      (beyond : Position) (lowest : beyond ≡ spot_of (lowest_of (s.beyond ++ unless (ltb k.count most_variables) n.place))) where
     beyond_now : beyond ≡ spot_of (lowest_of (s.beyond ++ unless (ltb (length s.declarations) most_variables) n.place))
     beyond_now = rw (kept_count keeps) lowest
 
@@ -202,9 +195,8 @@ module _ {text : List ℕ} {s : Script} {k : Kept} (keeps : Keeps text s k) wher
     pub name_left_out : 7 ≤ k.count → Keeps text (declared_if true at (part_in text n) s) (beyond_at k beyond)
     unfolding declared_if kept_if
     name_left_out full = record {
-      whole = still_whole k.stage k.check k.asserted k.outside beyond;
-      stage_is = keeps.stage_is;
-      check_is = keeps.check_is;
+      whole = still_whole k.phase k.asserted k.outside beyond;
+      phase_is = keeps.phase_is;
       declarations_are = rw (kept_count keeps, lt-leb k.count most_variables (omega arith)) keeps.declarations_are;
       names_stand = keeps.names_stand;
       spelt_from = keeps.spelt_from;
@@ -294,8 +286,7 @@ module _ {text : List ℕ} {s : Script} {k : Kept} (keeps : Keeps text s k) wher
           tokens_length = length-set k.tokens k.count n.place ∙ keeps.whole.tokens_length;
           signed_length = length-set k.signed k.count false ∙ keeps.whole.signed_length;
         };
-        stage_is = keeps.stage_is;
-        check_is = keeps.check_is;
+        phase_is = keeps.phase_is;
         declarations_are = rw (kept_count keeps, le-leb k.count most_variables (omega arith)) names_now;
         names_stand = record { room = omega (arith, bounds_whole); at_most_seven = omega arith; spans = spans_now };
         spelt_from = spelt_now;

@@ -2,17 +2,18 @@
 use Prim.Native.Nat.{ℕ, suc, ◌≤◌, ◌<◌}
 use native.Mathlib.Omega.{arith}
 use native.Mathlib.Decide.{dec_lt}
-use mathlib.Core.Path.{◌≡◌, refl, sym, ap, ◌∙◌}
+use mathlib.Core.Path.{◌≡◌, refl, sym, ap, ◌∙◌, subst}
 use mathlib.Core.Logic.{by_cases}
 use mathlib.Core.Bool.{Bool, true, false, not, ◌||◌, cond}
 use mathlib.Core.Option.{none, some, none-ne-some}
+use Rattle.std.specs.Prelude.{Option, Some, None, is_none}
 use mathlib.Core.List.{List, [], ◌∷◌}
 use lib.Dec.{leb, eqb}
-use borrow.Author.Tests.{le-leb, lt-leb, eq-eqb, ne_eqb}
-use Rattle.smtlib.specs.Spelling.{same, is_in, spelling}
+use borrow.Author.Tests.{le-leb, eq-eqb, ne_eqb}
+use Rattle.smtlib.specs.Spelling.{same, is_in}
 use Rattle.smtlib.specs.Forms.{Bare, symbol, other_word, Forms, word, list, bare_of}
 use Rattle.smtlib.specs.Terms.{most_numeral, index_from}
-use Rattle.smtlib.specs.Script.{Part, parts_of, says_word, nameable, is_nought, assert, check_sat, other_command, command_named, command_word, command_of, Script, faulty, logic_faults, declared, signs_name}
+use Rattle.smtlib.specs.Script.{Part, parts_of, says_word, nameable, is_nought, other_command, command_named, command_word, command_of, Script, faulty, logic_faults, declared, signs_name}
 use Rattle.smtlib.specs.Names.{index_there}
 use Rattle.lexicon.specs.Spots.{stretch}
 use Rattle.forms.specs.declared.Form.{Form}
@@ -21,7 +22,8 @@ use Rattle.forms.specs.Read.{OPEN, NUMERAL, SYMBOL, RESERVED, OTHER, WordSays, F
 use Rattle.terms.specs.Names.{IndexOf}
 use Rattle.script.specs.declared.Parts.{Parts}
 use Rattle.script.specs.Parts.{word_in, part_in, WordIs, list_here, numeral_here, symbol_here, reserved_here, other_here, PartSays, nothing_more, PartsAre, no_part, one_part, two_parts, three_parts, more_parts}
-use Rattle.script.specs.Commands.{command_code, later_code, CommandReads}
+use Rattle.script.specs.declared.CommandName.{CommandName}
+use Rattle.script.specs.Commands.{command_name, CommandReads}
 
 -- ---- which word a form is
 
@@ -123,67 +125,74 @@ module _ {text : List ℕ} {f : Form} where
 
 -- ---- so many parts
 
-pub record ThreeParts (text : List ℕ) (p : Parts) (ps : List Part) : Type 0 where
-  pub parts : ps ≡ part_in text p.first ∷ part_in text p.second ∷ part_in text p.third ∷ []
-  pub first : PartSays text p.first
-  pub second : PartSays text p.second
-  pub third : PartSays text p.third
+pub record ThreeParts (text : List ℕ) (f g h : Form) (ps : List Part) : Type 0 where
+  pub parts : ps ≡ part_in text f ∷ part_in text g ∷ part_in text h ∷ []
+  pub first : PartSays text f
+  pub second : PartSays text g
+  pub third : PartSays text h
 
-pub record TwoParts (text : List ℕ) (p : Parts) (ps : List Part) : Type 0 where
-  pub parts : ps ≡ part_in text p.first ∷ part_in text p.second ∷ []
-  pub first : PartSays text p.first
-  pub second : PartSays text p.second
+pub record TwoParts (text : List ℕ) (f g : Form) (ps : List Part) : Type 0 where
+  pub parts : ps ≡ part_in text f ∷ part_in text g ∷ []
+  pub first : PartSays text f
+  pub second : PartSays text g
 
-pub record OnePart (text : List ℕ) (p : Parts) (ps : List Part) : Type 0 where
-  pub parts : ps ≡ part_in text p.first ∷ []
-  pub first : PartSays text p.first
+pub record OnePart (text : List ℕ) (f : Form) (ps : List Part) : Type 0 where
+  pub parts : ps ≡ part_in text f ∷ []
+  pub first : PartSays text f
 
 module _ {text : List ℕ} {p : Parts} where
-  pub one_there : {ps : List Part} → PartsAre text p ps → p.count ≡ 1 → OnePart text p ps
-  one_there (no_part e) k = absurd (omega arith)
-  one_there (one_part e a) k = record { parts = refl; first = a }
-  one_there (two_parts e a b) k = absurd (omega arith)
-  one_there (three_parts e a b c) k = absurd (omega arith)
-  one_there (more_parts e a b c d rest) k = absurd (omega arith)
+  pub one_there : {ps : List Part} (f : Form) → PartsAre text p ps → p ≡ Parts.One f → OnePart text f ps
+  one_there f (no_part e) k = absurd (let z : ◌≡◌ {A = ℕ} 0 1 = cc in omega arith)
+  one_there f (one_part f' e a) k = let x : f' ≡ f = cc in record { parts = ap (λ (y : Form). part_in text y ∷ []) x; first = subst (PartSays text) x a }
+  one_there f (two_parts f' g' e a b) k = absurd (let z : ◌≡◌ {A = ℕ} 0 1 = cc in omega arith)
+  one_there f (three_parts f' g' h' e a b c) k = absurd (let z : ◌≡◌ {A = ℕ} 0 1 = cc in omega arith)
+  one_there f (more_parts e a b c d rest) k = absurd (let z : ◌≡◌ {A = ℕ} 0 1 = cc in omega arith)
 
-  pub two_there : {ps : List Part} → PartsAre text p ps → p.count ≡ 2 → TwoParts text p ps
-  two_there (no_part e) k = absurd (omega arith)
-  two_there (one_part e a) k = absurd (omega arith)
-  two_there (two_parts e a b) k = record { parts = refl; first = a; second = b }
-  two_there (three_parts e a b c) k = absurd (omega arith)
-  two_there (more_parts e a b c d rest) k = absurd (omega arith)
+  pub two_there : {ps : List Part} (f g : Form) → PartsAre text p ps → p ≡ Parts.Two f g → TwoParts text f g ps
+  two_there f g (no_part e) k = absurd (let z : ◌≡◌ {A = ℕ} 0 1 = cc in omega arith)
+  two_there f g (one_part f' e a) k = absurd (let z : ◌≡◌ {A = ℕ} 0 1 = cc in omega arith)
+  two_there f g (two_parts f' g' e a b) k =
+      let x : f' ≡ f = cc in
+      let y : g' ≡ g = cc in
+      record { parts = λ i. part_in text (x i) ∷ part_in text (y i) ∷ []; first = subst (PartSays text) x a; second = subst (PartSays text) y b }
+  two_there f g (three_parts f' g' h' e a b c) k = absurd (let z : ◌≡◌ {A = ℕ} 0 1 = cc in omega arith)
+  two_there f g (more_parts e a b c d rest) k = absurd (let z : ◌≡◌ {A = ℕ} 0 1 = cc in omega arith)
 
-  pub three_there : {ps : List Part} → PartsAre text p ps → p.count ≡ 3 → ThreeParts text p ps
-  three_there (no_part e) k = absurd (omega arith)
-  three_there (one_part e a) k = absurd (omega arith)
-  three_there (two_parts e a b) k = absurd (omega arith)
-  three_there (three_parts e a b c) k = record { parts = refl; first = a; second = b; third = c }
-  three_there (more_parts e a b c d rest) k = absurd (omega arith)
+  pub three_there : {ps : List Part} (f g h : Form) → PartsAre text p ps → p ≡ Parts.Three f g h → ThreeParts text f g h ps
+  three_there f g h (no_part e) k = absurd (let z : ◌≡◌ {A = ℕ} 0 1 = cc in omega arith)
+  three_there f g h (one_part f' e a) k = absurd (let z : ◌≡◌ {A = ℕ} 0 1 = cc in omega arith)
+  three_there f g h (two_parts f' g' e a b) k = absurd (let z : ◌≡◌ {A = ℕ} 0 1 = cc in omega arith)
+  three_there f g h (three_parts f' g' h' e a b c) k =
+      let x : f' ≡ f = cc in
+      let y : g' ≡ g = cc in
+      let w : h' ≡ h = cc in
+      record { parts = λ i. part_in text (x i) ∷ part_in text (y i) ∷ part_in text (w i) ∷ []; first = subst (PartSays text) x a; second = subst (PartSays text) y b; third = subst (PartSays text) w c }
+  three_there f g h (more_parts e a b c d rest) k = absurd (let z : ◌≡◌ {A = ℕ} 0 1 = cc in omega arith)
 
   -- as many as set-logic, declare-const and a sign assertion do not have
 
-  pub logic_parts : {ps : List Part} → PartsAre text p ps → (p.count ≡ 1 → ⊥) → (at : ℕ) → logic_faults at ps ≡ at ∷ []
+  pub logic_parts : {ps : List Part} → PartsAre text p ps → ((f : Form) → p ≡ Parts.One f → ⊥) → (at : ℕ) → logic_faults at ps ≡ at ∷ []
   unfolding logic_faults
   logic_parts (no_part e) k at = refl
-  logic_parts (one_part e a) k at = absurd (k e)
-  logic_parts (two_parts e a b) k at = refl
-  logic_parts (three_parts e a b c) k at = refl
+  logic_parts (one_part f e a) k at = absurd (k f e)
+  logic_parts (two_parts f g e a b) k at = refl
+  logic_parts (three_parts f g h e a b c) k at = refl
   logic_parts (more_parts e a b c d rest) k at = refl
 
-  pub declared_parts : {ps : List Part} → PartsAre text p ps → (p.count ≡ 2 → ⊥) → (at : ℕ) (s : Script) → declared at ps s ≡ faulty (at ∷ []) s
+  pub declared_parts : {ps : List Part} → PartsAre text p ps → ((f g : Form) → p ≡ Parts.Two f g → ⊥) → (at : ℕ) (s : Script) → declared at ps s ≡ faulty (at ∷ []) s
   unfolding declared
   declared_parts (no_part e) k at s = refl
-  declared_parts (one_part e a) k at s = refl
-  declared_parts (two_parts e a b) k at s = absurd (k e)
-  declared_parts (three_parts e a b c) k at s = refl
+  declared_parts (one_part f e a) k at s = refl
+  declared_parts (two_parts f g e a b) k at s = absurd (k f g e)
+  declared_parts (three_parts f g h e a b c) k at s = refl
   declared_parts (more_parts e a b c d rest) k at s = refl
 
-  pub sign_parts : {ps : List Part} → PartsAre text p ps → (p.count ≡ 3 → ⊥) → (names : List (List ℕ)) → signs_name names ps ≡ none
+  pub sign_parts : {ps : List Part} → PartsAre text p ps → ((f g h : Form) → p ≡ Parts.Three f g h → ⊥) → (names : List (List ℕ)) → signs_name names ps ≡ none
   unfolding signs_name
   sign_parts (no_part e) k names = refl
-  sign_parts (one_part e a) k names = refl
-  sign_parts (two_parts e a b) k names = refl
-  sign_parts (three_parts e a b c) k names = absurd (k e)
+  sign_parts (one_part f e a) k names = refl
+  sign_parts (two_parts f g e a b) k names = refl
+  sign_parts (three_parts f g h e a b c) k names = absurd (k f g h e)
   sign_parts (more_parts e a b c d rest) k names = refl
 
 -- ---- a name that is declared has a number
@@ -204,22 +213,11 @@ not_in w names e = go (is_in w names) refl
     go true f = let (j, g) = index_there 0 w names f in absurd (none-ne-some j (sym e ∙ g))
     go false f = refl
 
-module _ (w : List ℕ) (names : List (List ℕ)) (count r : ℕ) (index : IndexOf (index_from 0 w names) count r) where
-  pub index_tells : leb count r ≡ not (is_in w names)
-  index_tells = by_cases (dec_lt r count)
-      (λ p. rw (lt-leb count r p, index_in 0 w names r (index.there p)) refl)
-      (λ p. let h : count ≤ r = omega arith in rw (le-leb count r h, not_in w names (index.none_there h)) refl)
+pub index_tells : (w : List ℕ) (names : List (List ℕ)) (count : ℕ) (r : Option ℕ) → IndexOf (index_from 0 w names) count r → is_none r ≡ not (is_in w names)
+index_tells w names count (Some r) index = rw (index_in 0 w names r index.1) refl
+index_tells w names count None index = rw (not_in w names index) refl
 
 -- ---- the command
-
-code_by_tests : (a b : Bool) → cond a 2 (cond b 3 4) ≡ command_code (cond a assert (cond b check_sat other_command))
-code_by_tests true b = refl
-code_by_tests false true = refl
-code_by_tests false false = refl
-
-pub later_code_is : (w : List ℕ) → same w (spelling "set-logic") ≡ false → same w (spelling "declare-const") ≡ false → later_code w ≡ command_code (command_named w)
-unfolding later_code command_named
-later_code_is w e f = rw (e, f) (code_by_tests (same w (spelling "assert")) (same w (spelling "check-sat")))
 
 module _ (text : List ℕ) (at : ℕ) (f : Form) (reads : FormReads text at f) (stands : FormStands text at f) where
   -- a word that is not reserved
@@ -238,17 +236,17 @@ module _ (text : List ℕ) (at : ℕ) (f : Form) (reads : FormReads text at f) (
       let h : 3 ≤ f.kind = omega arith in
       rw ((reads depth u).word_here h).forms (other_word_lem (as_read text f _ ((reads depth u).word_says h) h stands.kind_known) k)
 
-  pub other_read : (f.kind ≡ RESERVED → ⊥) → CommandReads text at record { code = 4; next = f.next }
+  pub other_read : (f.kind ≡ RESERVED → ⊥) → CommandReads text at record { name = CommandName.Other; next = f.next }
   unfolding CommandReads
-  other_read k depth u = record { code_is = sym (ap command_code (no_command depth u k)); parts_behind = λ h. absurd (let z : ⊥ = omega arith in z) }
+  other_read k depth u = record { name_is = sym (ap command_name (no_command depth u k)); parts_behind = λ h. absurd (h refl) }
 
-  pub reserved_read : (code : ℕ) → f.kind ≡ RESERVED → code ≡ command_code (command_named (stretch text f.from f.to)) → CommandReads text at record { code = code; next = f.next }
+  pub reserved_read : (name : CommandName) → f.kind ≡ RESERVED → name ≡ command_name (command_named (stretch text f.from f.to)) → CommandReads text at record { name = name; next = f.next }
   unfolding CommandReads FormReads
-  reserved_read code k e depth u =
+  reserved_read name k e depth u =
       let r = reads depth u in
       let h : 3 ≤ f.kind = omega arith in
       let w = r.word_here h in
       record {
-        code_is = rw (w.forms, (r.word_says h).reserved_says k) e;
+        name_is = rw (w.forms, (r.word_says h).reserved_says k) e;
         parts_behind = λ l. record { place = f.place; head = _; forms = w.forms; levels = w.levels; unbroken = w.unbroken };
       }

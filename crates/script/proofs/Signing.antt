@@ -5,7 +5,8 @@ use native.Mathlib.Decide.{dec_lt}
 use mathlib.Core.Path.{◌≡◌, refl, sym, ap, ◌∙◌}
 use mathlib.Core.Logic.{by_cases}
 use mathlib.Core.Bool.{Bool, true, false, ◌&&◌, and-eq-true_iff, and-false}
-use mathlib.Core.Option.{Option, none}
+use mathlib.Core.Option.{none}
+use Rattle.std.proofs.Common.{Option, Some, None}
 use mathlib.Core.List.{List, [], ◌∷◌}
 use Rattle.smtlib.specs.Spelling.{spelling}
 use Rattle.smtlib.specs.Forms.{Bare, Forms, nothing, word, list}
@@ -30,30 +31,24 @@ module _ {text : List ℕ} {f : Form} (names : List (List ℕ)) (count : ℕ) wh
   nothing_said (reserved_here e) k = refl
   nothing_said (other_here e) k = refl
 
-  pub no_name_said : {w : Bare} → WordIs text f w → (f.kind ≡ SYMBOL → ⊥) → NameOf w names count count
-  no_name_said is k = record { one_said = λ h. absurd (let z : ⊥ = omega arith in z); none_said = λ h. nothing_said is k }
+  pub no_name_said : {w : Bare} → WordIs text f w → (f.kind ≡ SYMBOL → ⊥) → NameOf w names count None
+  no_name_said is k = nothing_said is k
 
-  pub name_said_lem : {w : Bare} (r : ℕ) → WordIs text f w → f.kind ≡ SYMBOL → IndexOf (index_from 0 (stretch text f.from f.to) names) count r → NameOf w names count r
-  name_said_lem r is k index = rw (symbol_is is k) record {
-    one_said = λ h. (index_in 0 _ names r (index.there h), index.there h);
-    none_said = λ h. not_in _ names (index.none_there h);
-  }
+  pub name_said : {w : Bare} (r : Option ℕ) → WordIs text f w → f.kind ≡ SYMBOL → IndexOf (index_from 0 (stretch text f.from f.to) names) count r → NameOf w names count r
+  name_said (Some r) is k index = rw (symbol_is is k) (index.0, (index_in 0 _ names r index.1, index.1))
+  name_said None is k index = rw (symbol_is is k) (not_in _ names index)
 
 -- ---- the three parts
 
-pub none_signed_by : (names : List (List ℕ)) (signed : Option (List ℕ)) (count : ℕ) → signed ≡ none → SignedBy names signed count count
-none_signed_by names signed count e = record { one_signed = λ h. absurd (let z : ⊥ = omega arith in z); none_signed = λ h. e }
-
 module _ (names : List (List ℕ)) (h n z : Part) where
-  pub signed_by_three : (count r : ℕ) → says_word h.word (spelling ">=") && is_nought z.word ≡ true → NameOf n.word names count r
+  pub signed_by_three : (count : ℕ) (r : Option ℕ) → says_word h.word (spelling ">=") && is_nought z.word ≡ true → NameOf n.word names count r
       → SignedBy names (signs_name names (h ∷ n ∷ z ∷ [])) count r
   unfolding signs_name
-  signed_by_three count r e name =
+  signed_by_three count (Some r) e name =
       let f = (and-eq-true_iff (says_word h.word (spelling ">=")) (is_nought z.word)).0 e in
-      record {
-        one_signed = λ l. record { name = name_in n.word; signs_it = rw (f.0, f.1, (name.one_said l).0) refl; number_is = (name.one_said l).1 };
-        none_signed = λ l. rw (f.0, name.none_said l) refl;
-      }
+      record { below = name.0; name = name_in n.word; signs_it = rw (f.0, f.1, name.1.0) refl; number_is = name.1.1 }
+  signed_by_three count None e name =
+      let f = (and-eq-true_iff (says_word h.word (spelling ">=")) (is_nought z.word)).0 e in rw (f.0, name) refl
 
   neither_three : (a b c : Bool) → a && c ≡ false → a && (b && c) ≡ false
   neither_three true b false e = and-false b

@@ -6,26 +6,26 @@ use Rattle.smtlib.specs.Forms.{Forms}
 use Rattle.smtlib.specs.Terms.{index_from}
 use Rattle.smtlib.specs.Formulas.{Clause}
 use Rattle.smtlib.specs.Script.{nameable, name_in, Command, Stage, Script, names_of, moved, faulty, declared_if, signed_as, lowest_of}
-use Rattle.lexicon.specs.declared.Spot.{Spot}
-use Rattle.lexicon.specs.Spots.{spot_of}
+use Rattle.lexicon.specs.Spots.{Position, spot_of}
 use Rattle.forms.specs.declared.Form.{Form}
 use Rattle.terms.specs.Names.{names_in}
+use Rattle.script.specs.declared.Phase.{Phase}
 use Rattle.script.specs.declared.Kept.{Kept}
 use Rattle.script.specs.declared.CommandHead.{CommandHead}
 use Rattle.script.specs.Parts.{word_in, part_in, PartSays}
 use Rattle.script.specs.Commands.{CommandSays}
-use Rattle.script.specs.Kept.{stage_code, check_place, Keeps}
+use Rattle.script.specs.Kept.{phase_of, Keeps}
 
 unfoldable pub KeepsOn : List ℕ → Kept → (Script → Script) → Kept → Type 0
 KeepsOn text k change r = (s : Script) → Keeps text s k → Keeps text (change s) r
 
--- another stage, and more 15s
-unfoldable pub MovesOn : Kept → ℕ → ℕ → Spot → Kept → Type 0
-MovesOn k code check fault r =
+-- another phase, and more 15s
+unfoldable pub MovesOn : Kept → Phase → Position → Kept → Type 0
+MovesOn k phase fault r =
     (text : List ℕ) (s : Script) (stage : Stage) (places : List ℕ) → Keeps text s k
-    → code ≡ stage_code stage → check ≡ check_place stage → fault ≡ spot_of (lowest_of places) → Keeps text (moved stage places s) r
+    → phase ≡ phase_of stage → fault ≡ spot_of (lowest_of places) → Keeps text (moved stage places s) r
 
-unfoldable pub FaultsOn : Kept → Spot → Kept → Type 0
+unfoldable pub FaultsOn : Kept → Position → Kept → Type 0
 FaultsOn k fault r = (text places : List ℕ) → fault ≡ spot_of (lowest_of places) → KeepsOn text k (λ s. faulty places s) r
 
 -- a name that is new
@@ -45,7 +45,7 @@ SignsOn k i r = (text w : List ℕ) → index_from 0 w (names_in text k.bounds k
 abbrev pub asserting : Clause → Script → Script
 asserting c s = record { stage = s.stage; declarations = s.declarations; asserted = s.asserted ++ (c ∷ []); outside = s.outside ++ c.faults; beyond = s.beyond }
 
-unfoldable pub AssertsOn : Kept → Spot → Kept → Type 0
+unfoldable pub AssertsOn : Kept → Position → Kept → Type 0
 AssertsOn k fault r = (text : List ℕ) (c : Clause) → fault ≡ spot_of (lowest_of c.faults) → KeepsOn text k (λ s. asserting c s) r
 
 -- a command as its head is read

@@ -5,18 +5,13 @@ use Rattle.smtlib.specs.Imported.{spelt_from}
 use Rattle.smtlib.specs.Names.{Distinct}
 use Rattle.lexicon.specs.Spots.{spot_of}
 use Rattle.terms.specs.Names.{name_at, NamesStand}
+use Rattle.script.specs.declared.Phase.{Phase}
 use Rattle.script.specs.declared.Kept.{Kept}
 
-abbrev pub stage_code : Stage → ℕ
-stage_code start = 0
-stage_code under = 1
-stage_code (checked at) = 2
-
--- where check-sat is
-abbrev pub check_place : Stage → ℕ
-check_place start = 0
-check_place under = 0
-check_place (checked at) = at
+abbrev pub phase_of : Stage → Phase
+phase_of start = Phase.Start
+phase_of under = Phase.Under
+phase_of (checked at) = Phase.Checked at
 
 -- ---- declarations
 
@@ -46,8 +41,7 @@ pub record KeptWhole (k : Kept) : Type 0 where
 
 pub record Keeps (text : List ℕ) (s : Script) (k : Kept) : Type 0 where
   pub whole : KeptWhole k
-  pub stage_is : k.stage ≡ stage_code s.stage
-  pub check_is : k.check ≡ check_place s.stage
+  pub phase_is : k.phase ≡ phase_of s.stage
   pub declarations_are : s.declarations ≡ declarations_in text k
   pub names_stand : NamesStand text k.bounds k.count
   pub spelt_from : (i : ℕ) → i < k.count → get_or k.bounds (2 * i) 0 ≡ spelt_from text (get_or k.tokens i 0)

@@ -1,4 +1,4 @@
--- The first parts of a list, as the code reads them.
+-- The parts of a list, as the code reads them.
 use Rattle.std.specs.Prelude.{ℕ, suc, ◌≤◌, ◌<◌, ◌≡◌, cond, List, [], ◌∷◌, eqb, length}
 use Rattle.std.proofs.Common.{arith}
 use Rattle.std.proofs.Math.Decide.{dec_lt}
@@ -44,12 +44,12 @@ pub record PartSays (text : List ℕ) (f : Form) : Type 0 where
 -- ---- none, one, two, three, or four and more
 
 pub data PartsAre (text : List ℕ) (p : Parts) : List Part → Type 0 where
-  no_part : p.count ≡ 0 → PartsAre text p []
-  one_part : p.count ≡ 1 → PartSays text p.first → PartsAre text p (part_in text p.first ∷ [])
-  two_parts : p.count ≡ 2 → PartSays text p.first → PartSays text p.second → PartsAre text p (part_in text p.first ∷ part_in text p.second ∷ [])
-  three_parts : p.count ≡ 3 → PartSays text p.first → PartSays text p.second → PartSays text p.third
-      → PartsAre text p (part_in text p.first ∷ part_in text p.second ∷ part_in text p.third ∷ [])
-  more_parts : p.count ≡ 4 → (a b c d : Part) (rest : List Part) → PartsAre text p (a ∷ b ∷ c ∷ d ∷ rest)
+  no_part : p ≡ Parts.Zero → PartsAre text p []
+  one_part : (f : Form) → p ≡ Parts.One f → PartSays text f → PartsAre text p (part_in text f ∷ [])
+  two_parts : (f g : Form) → p ≡ Parts.Two f g → PartSays text f → PartSays text g → PartsAre text p (part_in text f ∷ part_in text g ∷ [])
+  three_parts : (f g h : Form) → p ≡ Parts.Three f g h → PartSays text f → PartSays text g → PartSays text h
+      → PartsAre text p (part_in text f ∷ part_in text g ∷ part_in text h ∷ [])
+  more_parts : p ≡ Parts.More → (a b c d : Part) (rest : List Part) → PartsAre text p (a ∷ b ∷ c ∷ d ∷ rest)
 
 -- ---- no form where the list or the text ends
 

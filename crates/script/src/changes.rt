@@ -4,7 +4,7 @@ ghost use Rattle.smtlib.specs.Script.{unless, lowest_of};
 ghost use Rattle.lexicon.specs.Spots.{spot_of};
 ghost use Rattle.script.specs.Changes.{MovesOn, FaultsOn, NamesOn, SignsOn, AssertsOn};
 
-use crate::{Kept, NAMES};
+use crate::{Kept, NAMES, Phase};
 use forms::Form;
 use lexicon::{Spot, lower};
 use scope::Question;
@@ -13,30 +13,26 @@ use scope::Question;
 pub fn unless(holds: bool, place: usize) -> Spot
     ensures { result ≡ spot_of (lowest_of (unless holds place)) }
 {
-    Spot {
-        there: !holds,
-        place: if holds { 0 } else { place },
-    }
+    if holds { None } else { Some(place) }
 }
 
-// Another stage, and the lowest of more 15s.
-pub fn moved(kept: Kept, stage: u8, check: usize, fault: Spot) -> Kept
-    ensures { MovesOn kept stage check fault result }
+// Another phase, and the lowest of more 15s.
+pub fn moved(kept: Kept, phase: Phase, fault: Spot) -> Kept
+    ensures { MovesOn kept phase fault result }
 {
-    let earlier = kept.outside;
-    let outside = lower(earlier, fault);
-    let mut next = kept;
-    next.stage = stage;
-    next.check = check;
-    next.outside = outside;
-    next
+    let outside = lower(kept.outside, fault);
+    Kept {
+        phase,
+        outside,
+        ..kept
+    }
 }
 
 // More 15s, by the lowest of them.
 pub fn with_faults(kept: Kept, fault: Spot) -> Kept
     ensures { FaultsOn kept fault result }
 {
-    moved(kept, kept.stage, kept.check, fault)
+    moved(kept, kept.phase, fault)
 }
 
 // A 15 at a place.
@@ -83,10 +79,10 @@ pub fn with_assertion(kept: Kept, fault: Spot) -> Kept
     requires { kept.asserted + 1 < 2 ^ 64 }
     ensures { AssertsOn kept fault result }
 {
-    let earlier = kept.outside;
-    let outside = lower(earlier, fault);
-    let mut next = kept;
-    next.asserted = kept.asserted + 1;
-    next.outside = outside;
-    next
+    let outside = lower(kept.outside, fault);
+    Kept {
+        asserted: kept.asserted + 1,
+        outside,
+        ..kept
+    }
 }

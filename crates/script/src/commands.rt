@@ -14,7 +14,7 @@ use crate::changes::{
     moved, unless, with_assertion, with_fault, with_faults, with_name, with_sign,
 };
 use crate::listed::{command_at, is_new, parts_at, says_word, signed_name};
-use crate::{CommandHead, Kept};
+use crate::{CommandHead, CommandName, Kept, Parts, Phase};
 use clauses::clause_from;
 use forms::{Form, form_at};
 use lexicon::{Spot, lower};
@@ -27,11 +27,9 @@ fn logic_fault(text: &[u8], place: usize, at: usize) -> Spot
     requires { Inside text.now at command_nesting }
     ensures { result ≡ spot_of (lowest_of (logic_faults place (parts_of (forms_at text.now at)))) }
 {
-    let parts = parts_at(text, at);
-    if parts.count != 1 {
+    let Parts::One(first) = parts_at(text, at) else {
         return unless(false, place);
-    }
-    let first = parts.first;
+    };
     unless(says_word(text, first, b"QF_LIA"), first.place)
 }
 
@@ -40,10 +38,10 @@ fn logic_due(text: &[u8], place: usize, head: CommandHead, kept: Kept) -> Kept
     requires { CommandInside text.now head }
     ensures { CommandsOn text.now head kept (λ c parts s. moved under (logic_due c place parts) s) result }
 {
-    if head.code != CommandHead::SET_LOGIC {
-        return moved(kept, Kept::UNDER, 0, unless(false, place));
-    }
-    moved(kept, Kept::UNDER, 0, logic_fault(text, place, head.next))
+    let CommandName::SetLogic = head.name else {
+        return moved(kept, Phase::Under, unless(false, place));
+    };
+    moved(kept, Phase::Under, logic_fault(text, place, head.next))
 }
 
 // A name and a sort.
@@ -68,12 +66,9 @@ fn declare(text: &[u8], place: usize, at: usize, kept: Kept) -> Kept
     requires { Inside text.now at command_nesting × NamesStand text.now kept.bounds kept.count }
     ensures { KeepsOn text.now kept (λ s. declared place (parts_of (forms_at text.now at)) s) result }
 {
-    let parts = parts_at(text, at);
-    if parts.count != 2 {
+    let Parts::Two(name, sort) = parts_at(text, at) else {
         return with_fault(kept, place);
-    }
-    let name = parts.first;
-    let sort = parts.second;
+    };
     declare_as(text, place, name, sort, kept)
 }
 
@@ -84,14 +79,13 @@ fn assert_formula(text: &[u8], place: usize, at: usize, kept: Kept) -> Kept
 {
     let bounds = kept.bounds;
     let clause = clause_from(text, at, &bounds, kept.count, NESTING);
-    if clause.ended {
+    let Some(fault) = clause.formula else {
         return with_fault(kept, place);
-    }
+    };
     let rest = form_at(text, clause.next);
     if Form::OPEN <= rest.kind {
         return with_fault(kept, place);
     }
-    let fault = clause.fault;
     with_assertion(kept, fault)
 }
 
@@ -101,8 +95,7 @@ fn assert_any(text: &[u8], place: usize, at: usize, kept: Kept) -> Kept
     ensures { KeepsOn text.now kept (λ s. asserted_as (signs (names_of s.declarations) (forms_at text.now at)) place (forms_at text.now at) s) result }
 {
     let bounds = kept.bounds;
-    let i = signed_name(text, at, &bounds, kept.count);
-    if i < kept.count {
+    if let Some(i) = signed_name(text, at, &bounds, kept.count) {
         return with_sign(kept, i);
     }
     assert_formula(text, place, at, kept)
@@ -116,8 +109,7 @@ fn check_sat(text: &[u8], place: usize, at: usize, kept: Kept) -> Kept
     let first = form_at(text, at);
     moved(
         kept,
-        Kept::CHECKED,
-        place,
+        Phase::Checked(place),
         unless(first.kind < Form::OPEN, place),
     )
 }
@@ -127,11 +119,10 @@ fn under_logic(text: &[u8], place: usize, head: CommandHead, kept: Kept) -> Kept
     requires { CommandInside text.now head × (NamesStand text.now kept.bounds kept.count × (kept.asserted + 1 < 2 ^ 64)) }
     ensures { CommandsOn text.now head kept (λ c parts s. under_logic c place parts s) result }
 {
-    let code = head.code;
-    match code {
-        CommandHead::DECLARE_CONST => declare(text, place, head.next, kept),
-        CommandHead::ASSERT => assert_any(text, place, head.next, kept),
-        CommandHead::CHECK_SAT => check_sat(text, place, head.next, kept),
+    match head.name {
+        CommandName::DeclareConst => declare(text, place, head.next, kept),
+        CommandName::Assert => assert_any(text, place, head.next, kept),
+        CommandName::CheckSat => check_sat(text, place, head.next, kept),
         _ => with_fault(kept, place),
     }
 }
@@ -146,7 +137,7 @@ pub fn head_of(text: &[u8], form: Form) -> CommandHead
         return command_at(text, form.next);
     }
     CommandHead {
-        code: CommandHead::OTHER,
+        name: CommandName::Other,
         next: form.next,
     }
 }
@@ -157,11 +148,9 @@ pub fn command(text: &[u8], form: Form, kept: Kept) -> Kept
     ensures { KeepsOn text.now kept (λ s. at_stage s.stage (command_in text.now form) form.place (forms_behind text.now form) s) result }
 {
     let head = head_of(text, form);
-    if kept.stage == Kept::START {
-        return logic_due(text, form.place, head, kept);
+    match kept.phase {
+        Phase::Start => logic_due(text, form.place, head, kept),
+        Phase::Under => under_logic(text, form.place, head, kept),
+        Phase::Checked(_) => with_fault(kept, form.place),
     }
-    if kept.stage == Kept::CHECKED {
-        return with_fault(kept, form.place);
-    }
-    under_logic(text, form.place, head, kept)
 }

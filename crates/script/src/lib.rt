@@ -20,40 +20,45 @@ pub use missing::fault_of;
 // A seventh name is kept, since its sign assertion may be missing.
 pub const NAMES: usize = 7;
 
-// The first parts of a list: how many (four and more as 4), and the first three.
+// The parts of a list: four are more than any command has.
 #[derive(Clone, Copy)]
-pub struct Parts {
-    pub count: u8,
-    pub first: Form,
-    pub second: Form,
-    pub third: Form,
+pub enum Parts {
+    Zero,
+    One(Form),
+    Two(Form, Form),
+    Three(Form, Form, Form),
+    More,
 }
 
-// A command by its code (0 set-logic, 1 declare-const, 2 assert, 3 check-sat, 4 another) and where its parts start.
+#[derive(Clone, Copy)]
+pub enum CommandName {
+    SetLogic,
+    DeclareConst,
+    Assert,
+    CheckSat,
+    Other,
+}
+
+// A command by its name, and where its parts start.
 #[derive(Clone, Copy)]
 pub struct CommandHead {
-    pub code: u8,
+    pub name: CommandName,
     pub next: usize,
 }
 
-impl CommandHead {
-    pub const SET_LOGIC: u8 = 0;
-
-    pub const DECLARE_CONST: u8 = 1;
-
-    pub const ASSERT: u8 = 2;
-
-    pub const CHECK_SAT: u8 = 3;
-
-    pub const OTHER: u8 = 4;
+// Where a script stands: set-logic is due; under the logic; or behind check-sat, which is at this place.
+#[derive(Clone, Copy)]
+pub enum Phase {
+    Start,
+    Under,
+    Checked(usize),
 }
 
-// What is kept of a script: its stage, and where check-sat is; how many names there are, and of each where its spelling starts and ends (bounds), the place of its
+// What is kept of a script: where it stands; how many names there are, and of each where its spelling starts and ends (bounds), the place of its
 // command, that of its token, and whether it has a sign assertion; how many other assertions there are; and the lowest place that is a 15 and that is a 4.
 #[derive(Clone, Copy)]
 pub struct Kept {
-    pub stage: u8,
-    pub check: usize,
+    pub phase: Phase,
     pub count: usize,
     pub bounds: [usize; 2 * NAMES],
     pub places: [usize; NAMES],
@@ -65,26 +70,13 @@ pub struct Kept {
 }
 
 impl Kept {
-    // set-logic is due
-    pub const START: u8 = 0;
-
-    // under the logic
-    pub const UNDER: u8 = 1;
-
-    // behind check-sat
-    pub const CHECKED: u8 = 2;
-
     // Before the first command.
     pub fn none() -> Kept
         ensures { (text : List ℕ) → Keeps text no_script result }
     {
-        let none = Spot {
-            there: false,
-            place: 0,
-        };
+        let none = None;
         Kept {
-            stage: Self::START,
-            check: 0,
+            phase: Phase::Start,
             count: 0,
             bounds: [0; 2 * NAMES],
             places: [0; NAMES],

@@ -2,10 +2,10 @@
 ghost use Rattle.std.specs.Prelude.{◌≤◌};
 ghost use Rattle.script.specs.Faults.{UnsignedPlace, MissingForm, MissingName, LowerTold, FaultTold};
 
-use crate::Kept;
 use crate::changes::unless;
+use crate::{Kept, Phase};
 use lexicon::{Spot, lower};
-use scope::{ReadAnswer, Refusal};
+use scope::{Refusal, Rule};
 
 // The lowest place of a declaration whose name has no sign assertion.
 fn unsigned_place(kept: Kept) -> Spot
@@ -15,15 +15,9 @@ fn unsigned_place(kept: Kept) -> Spot
     let count = kept.count;
     let places = kept.places;
     let signed = kept.signed;
-    let mut spot = Spot {
-        there: false,
-        place: 0,
-    };
-    let mut i = 0;
-    while i < count {
-        let more = lower(spot, unless(signed[i], places[i]));
-        spot = more;
-        i += 1;
+    let mut spot = None;
+    for i in 0..count {
+        spot = lower(spot, unless(signed[i], places[i]));
     }
     spot
 }
@@ -32,40 +26,37 @@ fn unsigned_place(kept: Kept) -> Spot
 fn missing_form(kept: Kept, end: usize) -> Spot
     ensures { MissingForm kept end result }
 {
-    if kept.stage != Kept::CHECKED {
-        return unless(false, end);
+    match kept.phase {
+        Phase::Checked(at) => unless(0 < kept.asserted, at),
+        _ => unless(false, end),
     }
-    unless(0 < kept.asserted, kept.check)
 }
 
 // No name, at check-sat.
 fn missing_name(kept: Kept) -> Spot
     ensures { MissingName kept result }
 {
-    unless((kept.stage != Kept::CHECKED) | (0 < kept.count), kept.check)
+    match kept.phase {
+        Phase::Checked(at) => unless(0 < kept.count, at),
+        _ => unless(true, 0),
+    }
 }
 
 // The lower of a 15 and a 4; at one byte the 15.
-fn told(outside: Spot, beyond: Spot) -> ReadAnswer
+fn told(outside: Spot, beyond: Spot) -> Result<(), Refusal>
     ensures { LowerTold outside beyond result }
 {
-    if outside.there & (!beyond.there | (outside.place <= beyond.place)) {
-        return ReadAnswer::Refused(Refusal {
-            number: Refusal::OUTSIDE_SUBSET,
-            place: outside.place,
-        });
+    match (outside, beyond) {
+        (Some(place), Some(later)) if later < place => Err(Rule::BeyondLimit.at(later)),
+        (Some(place), Some(_)) => Err(Rule::OutsideSubset.at(place)),
+        (Some(place), None) => Err(Rule::OutsideSubset.at(place)),
+        (None, Some(place)) => Err(Rule::BeyondLimit.at(place)),
+        (None, None) => Ok(()),
     }
-    if beyond.there {
-        return ReadAnswer::Refused(Refusal {
-            number: Refusal::BEYOND_LIMIT,
-            place: beyond.place,
-        });
-    }
-    ReadAnswer::Accepted
 }
 
 // The fault of a script, of a text with so many bytes: the lowest place, 15 before 4.
-pub fn fault_of(kept: Kept, end: usize) -> ReadAnswer
+pub fn fault_of(kept: Kept, end: usize) -> Result<(), Refusal>
     requires { kept.count ≤ 7 }
     ensures { FaultTold kept end result }
 {

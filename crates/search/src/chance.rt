@@ -3,15 +3,22 @@ ghost use Rattle.std.specs.Prelude.{◌<◌};
 
 const MODULUS: u64 = 2_147_483_647;
 
-// The number of the sequence after a seed, which is the next seed.
-pub fn after(seed: u64) -> u64 {
-    seed % MODULUS * 48_271 % MODULUS
+#[derive(Drop)]
+pub struct Chance {
+    seed: u64,
 }
 
-// A seed brought below a bound.
-pub fn below(seed: u64, bound: u64) -> u64
-    requires { 0 < bound }
-    ensures { result < bound }
-{
-    seed / 8 % bound
+impl Chance {
+    pub fn from_seed(seed: u64) -> Chance {
+        Chance { seed }
+    }
+
+    // The next number of the sequence, brought below a bound.
+    pub fn below(&mut self, bound: u64) -> u64
+        requires { 0 < bound }
+        ensures { result < bound }
+    {
+        self.seed = self.seed % MODULUS * 48_271 % MODULUS;
+        self.seed / 8 % bound
+    }
 }

@@ -1,211 +1,194 @@
 // A sheet by chance, with so many variables and atoms, and words by chance.
 ghost use Rattle.std.specs.Prelude.{◌≤◌, ◌<◌};
 
-use crate::chance::{after, below};
-use crate::plain::plus;
-use crate::sheet::{CODES, COLUMNS, CONSTANT, KINDS, LAST, M, N, NODES, SEED, SHEET};
+use crate::chance::Chance;
+use crate::sheet::{Atom, Node, Relation, Sheet, Side};
 use scope::Question;
 
 // The nots of a formula at most: under these and its ands and ors, one fewer than its atoms, no part is too deep.
-const NOTS: u64 = 8;
-
-const MOST_CONSTANT: u64 = Question::CONSTANT as u64;
-
-const MOST_COEFFICIENT: u64 = Question::COEFFICIENT as u64;
+const NOTS: usize = 8;
 
 // The letters of a long word at most.
-const LONG: usize = 400;
+pub const LONG: usize = 400;
 
-// The columns of all rows.
-const ALL: usize = COLUMNS * Question::ATOMS;
+// Where a formula stands: the parts due, and the atoms and the nots so far.
+#[derive(Drop)]
+struct Standing {
+    due: usize,
+    atoms: usize,
+    nots: usize,
+}
 
-// Where a formula stands is one number: the parts due, the atoms so far by a hundred, and the nots by ten thousand.
-const ATOM: u64 = 100;
+impl Standing {
+    // A node that is due: a not now and then, an atom where there are no more than the parts that need one each, and no atom that
+    // would end the formula before its last.
+    fn node(&self, m: usize, chance: &mut Chance) -> Node {
+        let drawn = chance.below(6);
+        let first = chance.below(2) == 0;
+        let joins = self.due.saturating_add(self.atoms) < m && (self.due == 1 || drawn % 2 == 0);
+        if drawn == 0 && self.nots < NOTS {
+            return Node::Not;
+        }
+        match (joins, first) {
+            (true, true) => Node::And,
+            (true, false) => Node::Or,
+            (false, true) => Node::Atom(Relation::Equation),
+            (false, false) => Node::Atom(Relation::AtMost),
+        }
+    }
 
-const NOT: u64 = 10_000;
+    // An atom is a part that was due, and an and or an or has two parts for one.
+    fn add(&mut self, node: Node) {
+        match node {
+            Node::Atom(_) => {
+                self.due = self.due.saturating_sub(1);
+                self.atoms = self.atoms.saturating_add(1);
+            }
+            Node::Not => self.nots = self.nots.saturating_add(1),
+            Node::And | Node::Or => self.due = self.due.saturating_add(1),
+        }
+    }
+}
 
-// A node that is due: a not now and then, an atom where there are no more than the parts that need one each, and no atom that
-// would end the formula before its last. An atom and a connective have two codes each.
-fn node_code(m: u64, stands: u64, chance: u64, other: u64) -> u64
-    requires { other < 2 }
+// Draws the nodes of a formula, each connective before its parts.
+fn draw_formula(m: usize, chance: &mut Chance, q: &mut Sheet) {
+    let mut standing = Standing {
+        due: 1,
+        atoms: 0,
+        nots: 0,
+    };
+    for i in 0..Question::NODES {
+        if standing.due == 0 {
+            break;
+        }
+        let node = standing.node(m, chance);
+        if let Node::Atom(relation) = node {
+            q.rows[standing.atoms % Question::ATOMS].relation = relation;
+        }
+        standing.add(node);
+        q.formula[i] = node;
+        q.size = i + 1;
+    }
+}
+
+// How large the numbers of a question are.
+#[derive(Clone, Copy)]
+struct Scale {
+    constant: u64,
+    coefficient: u64,
+}
+
+fn draw_scale(chance: &mut Chance) -> Scale
+    ensures coefficient { result.coefficient ≤ 1000000 }
+    ensures constant { result.constant ≤ 1000000 }
 {
-    let due = stands % ATOM;
-    let joins = (due + stands / ATOM % ATOM < m) & ((due == 1) | (chance % 2 == 0));
-    if (chance == 0) & (stands / NOT < NOTS) {
-        return 3;
+    let (constant, coefficient) = match chance.below(7) {
+        0..=2 => (2, 1),
+        3..=4 => (9, 2),
+        5 => (40, 7),
+        _ => (1_000_000, 4_096),
+    };
+    Scale {
+        constant,
+        coefficient,
     }
-    if joins {
-        return 4 + other;
-    }
-    1 + other
 }
 
-// What a node adds: an atom is a part that was due, and an and or an or has two parts for one.
-fn step_of(code: u64) -> u64 {
-    if code < 3 {
-        return ATOM - 1;
-    }
-    if code == 3 { NOT } else { 1 }
-}
-
-// Draws the codes of a formula, each connective before its parts. An atom's row has the last code that is drawn for it, its own.
-fn draw_formula(m: u64, q: &mut [u64; SHEET]) {
-    let mut seed = q[SEED];
-    let mut stands = 1;
-    let mut i = 0;
-    while i < Question::NODES && 0 < stands % ATOM {
-        let first = after(seed);
-        seed = after(first);
-        let code = node_code(m, stands, below(first, 6), below(seed, 2));
-        q[CODES + i] = code;
-        q[KINDS + (stands / ATOM % ATOM % 8) as usize] = code;
-        stands = plus(stands, step_of(code));
-        i += 1;
-    }
-    q[NODES] = i as u64;
-    q[SEED] = seed;
-}
-
-// The largest constant and the largest coefficient, by the question's scale.
-fn most_constant(scale: u64) -> u64
-    ensures { result ≤ 1000000 }
+// Draws a number of so much at most, which stands on one side.
+fn draw_number(most: u64, chance: &mut Chance) -> (u64, u64)
+    requires { most ≤ 1000000 }
 {
-    if scale < 3 {
-        return 2;
-    }
-    if scale < 5 {
-        return 9;
-    }
-    if scale == 5 { 40 } else { MOST_CONSTANT }
-}
-
-fn most_coefficient(scale: u64) -> u64
-    ensures { result ≤ 1000000 }
-{
-    if scale < 3 {
-        return 1;
-    }
-    if scale < 5 {
-        return 2;
-    }
-    if scale == 5 { 7 } else { MOST_COEFFICIENT }
-}
-
-// The largest number of a column; 0 where the question does not have the column or the atom.
-fn most_of(n: usize, m: usize, c: usize, scale: u64) -> u64
-    ensures { result ≤ 1000000 }
-{
-    if m <= c / COLUMNS {
-        return 0;
-    }
-    if c % COLUMNS == CONSTANT {
-        return most_constant(scale);
-    }
-    if c % COLUMNS < n {
-        most_coefficient(scale)
+    let number = chance.below(2 * most + 1);
+    if most < number {
+        (0, number - most)
     } else {
-        0
+        (number, 0)
     }
 }
 
-// The next seed where there is something to draw.
-fn after_if(most: u64, seed: u64) -> u64 {
-    if 0 < most { after(seed) } else { seed }
-}
-
-// What of a number up to twice the most stands right, the rest of those.
-fn right_of(number: u64, most: u64) -> u64 {
-    if most < number { number - most } else { 0 }
-}
-
-fn left_of(number: u64, most: u64) -> u64 {
-    if most < number { 0 } else { number }
-}
-
-// Draws the numbers of the first m atoms, each on one side.
-fn draw_numbers(n: usize, m: usize, scale: u64, q: &mut [u64; SHEET]) {
-    let mut seed = q[SEED];
-    let mut c = 0;
-    while c < ALL {
-        let most = most_of(n, m, c, scale);
-        seed = after_if(most, seed);
-        let number = below(seed, 2 * most + 1);
-        q[2 * c] = left_of(number, most);
-        q[2 * c + 1] = right_of(number, most);
-        c += 1;
+// Draws the sides of an atom.
+fn draw_sides(n: usize, scale: &Scale, chance: &mut Chance) -> (Side, Side)
+    requires variables { n ≤ 6 }
+    requires coefficient { scale.now.coefficient ≤ 1000000 }
+    requires constant { scale.now.constant ≤ 1000000 }
+{
+    let mut left = Side::EMPTY;
+    let mut right = Side::EMPTY;
+    for i in 0..n {
+        let (plus, minus) = draw_number(scale.coefficient, chance);
+        left.coefficients[i] = plus;
+        right.coefficients[i] = minus;
     }
-    q[SEED] = seed;
+    let (plus, minus) = draw_number(scale.constant, chance);
+    left.constant = plus;
+    right.constant = minus;
+    (left, right)
 }
 
 // Draws a sheet.
-pub fn draw(n: usize, m: usize, seed: u64) -> [u64; SHEET]
+pub fn draw(n: usize, m: usize, chance: &mut Chance) -> Sheet
     requires { n ≤ 6 }
 {
-    let mut q = [0u64; SHEET];
-    q[N] = n as u64;
-    q[M] = m as u64;
-    q[LAST] = last_letter(n);
-    q[SEED] = seed;
-    draw_formula(m as u64, &mut q);
-    let scale = after(q[SEED]);
-    q[SEED] = scale;
-    draw_numbers(n, m, below(scale, 7), &mut q);
+    let mut q = Sheet {
+        variables: n,
+        m,
+        rows: [Atom::EMPTY; Question::ATOMS],
+        size: 0,
+        formula: [Node::Not; Question::NODES],
+    };
+    draw_formula(m, chance, &mut q);
+    let scale = draw_scale(chance);
+    for atom in q.rows.iter_mut().take(m) {
+        let (left, right) = draw_sides(n, &scale, chance);
+        atom.left = left;
+        atom.right = right;
+    }
     q
 }
 
-// One less than the letters, which are at most 64.
-fn last_letter(n: usize) -> u64
-    requires { n ≤ 6 }
-{
-    (scope::letters(n) as u64 + 63) % 64
+// How the letters of a long word are drawn.
+#[derive(Clone, Copy, PartialEq, Eq, Debug)]
+pub enum Drawing {
+    ByChance,
+    // The first letter or the last.
+    AtEnds,
+    // By chance up to some place, and then the first letter or the last.
+    ThenFirst,
+    ThenLast,
 }
 
-// A letter of a long word: by chance, or all digits alike, or by chance up to some place only.
-fn drawn_as(kind: u64, i: usize, letter: u64, last: u64) -> u64 {
-    if kind == 0 {
-        return letter;
+impl Drawing {
+    pub const ALL: [Drawing; 4] = [
+        Drawing::ByChance,
+        Drawing::AtEnds,
+        Drawing::ThenFirst,
+        Drawing::ThenLast,
+    ];
+
+    fn letter(self, i: usize, drawn: u64, last: u64) -> u64 {
+        match self {
+            Drawing::ByChance => drawn,
+            Drawing::AtEnds => if drawn % 2 == 0 { 0 } else { last },
+            Drawing::ThenFirst => if i < 6 { drawn } else { 0 },
+            Drawing::ThenLast => if i < 40 { drawn } else { last },
+        }
     }
-    if kind == 1 {
-        return if letter % 2 == 0 { 0 } else { last };
-    }
-    if kind == 2 {
-        return if i < 6 { letter } else { 0 };
-    }
-    if i < 40 { letter } else { last }
 }
 
-// The letters of a long word, by its first seed.
-pub fn long_of(seed: u64) -> usize
-    ensures { result < 400 }
-{
-    below(seed, 400) as usize
-}
-
-// Draws the letters of a word of one of four kinds, each by the next seed.
-pub fn draw_word(kind: u64, letters: u64, first: u64) -> [u8; LONG]
+// Draws a word into the room lent for it.
+pub fn draw_word<'a>(
+    drawing: Drawing,
+    letters: usize,
+    chance: &mut Chance,
+    room: &'a mut [u8; LONG],
+) -> &'a [u8]
     requires letters_nonzero { 0 < letters }
     requires letters_bound { letters ≤ 64 }
 {
-    let len = long_of(first);
-    let mut word = [0u8; LONG];
-    let mut seed = first;
-    let mut i = 0;
-    while i < len {
-        seed = after(seed);
-        word[i] = (drawn_as(kind, i, below(seed, letters), letters - 1) % 64) as u8;
-        i += 1;
+    let len = chance.below(LONG as u64) as usize;
+    for (i, cell) in room.iter_mut().take(len).enumerate() {
+        let letter = drawing.letter(i, chance.below(letters as u64), letters as u64 - 1);
+        *cell = (letter % 64) as u8;
     }
-    word
-}
-
-// The last seed of a word.
-pub fn after_word(first: u64) -> u64 {
-    let len = long_of(first);
-    let mut seed = first;
-    let mut i = 0;
-    while i < len {
-        seed = after(seed);
-        i += 1;
-    }
-    seed
+    &room[..len]
 }

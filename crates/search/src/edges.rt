@@ -1,9 +1,8 @@
-// Where each state comes up first, a number for each: the state that leads to it by 65,536 and the letter that does.
+// Where each state comes up first: the state that leads to it and the letter that does.
 ghost use Rattle.std.specs.Prelude.{◌<◌};
 
-use crate::plain::{POWER, VALUES, plus, times};
-use crate::sheet::{CONSTANT, SHEET, letters};
-use crate::spelled::put_letter;
+use crate::plain::Values;
+use crate::sheet::Sheet;
 use scope::Question;
 
 // The rows of which the states are looked at, and the cells of all of them.
@@ -15,106 +14,81 @@ pub const PATH: usize = 2 * ROWS;
 
 pub const TABLE: usize = (1 + Question::LETTERS) * ROWS;
 
-const BY: u64 = 65_536;
-
-// 2 to the letters of a word that is spelled at most; with more its power is 0.
-const MOST: u64 = 549_755_813_888;
-
-pub fn wide(cell: u16) -> u64 {
-    cell as u64
+// An edge is before another where its state is, and by one state where its letter is.
+#[derive(Clone, Copy, PartialEq, Eq, PartialOrd, Ord, Debug)]
+pub struct Edge {
+    from: usize,
+    letter: usize,
 }
 
-fn edge_by(from: u16, letter: u16) -> u64 {
-    BY * from as u64 + letter as u64
-}
-
-// The edges that a path area has.
-pub fn edges_of(path: &[u16; PATH]) -> [u64; ROWS] {
-    let mut edges = [0u64; ROWS];
-    let mut s = 0;
-    while s < ROWS {
-        edges[s] = edge_by(path[2 * s], path[2 * s + 1]);
-        s += 1;
+impl Edge {
+    // Whether it is from an earlier state than one and by a letter.
+    fn leads_to(self, state: usize, letters: usize) -> bool {
+        self.from < state && self.letter < letters
     }
-    edges
 }
 
-fn less(column: u64) -> u64 {
-    if 0 < column { column - 1 } else { 0 }
+// The edges by which the states come up, one for each state that does; the first state's says nothing.
+#[derive(Drop)]
+pub struct Edges {
+    all: [Option<Edge>; ROWS],
 }
 
-// The edge of a table's cell: a letter is one less than its column.
-fn edge_at(row: usize, column: usize) -> u64 {
-    plus(times(row as u64, BY), less(column as u64))
-}
-
-// Where a table has a state next, from a cell on and not as a mark; the table's end where it has not.
-fn next_at(table: &[u16; TABLE], width: usize, from: usize, state: usize) -> usize
-    requires { 0 < width }
-{
-    let mut at = from;
-    while at < TABLE {
-        if is_lead(table[at], at % width, state) {
-            return at;
+impl Edges {
+    // The edges that a path area has.
+    pub fn of_path(path: &[u16; PATH]) -> Edges {
+        let (pairs, _) = path.as_chunks::<2>();
+        let mut all = [None; ROWS];
+        for (edge, [from, letter]) in all.iter_mut().zip(pairs) {
+            *edge = Some(Edge {
+                from: usize::from(*from),
+                letter: usize::from(*letter),
+            });
         }
-        at += 1;
+        Edges { all }
     }
-    TABLE
-}
 
-fn is_lead(cell: u16, column: usize, state: usize) -> bool {
-    (0 < column) & (cell as usize == state)
-}
-
-// The edges of a table: a state comes up first after the state before it.
-pub fn edges_by(table: &[u16; TABLE], width: usize) -> [u64; ROWS]
-    requires { 0 < width }
-{
-    let mut edges = [0u64; ROWS];
-    let mut at = 0;
-    let mut s = 1;
-    while s < ROWS {
-        at = next_at(table, width, at, s);
-        edges[s] = edge_at(at / width, at % width);
-        s += 1;
+    // The edges of a table with rows of a mark and so many letters: a state comes up first after the state before it.
+    pub fn of_table(table: &[u16; TABLE], letters: usize) -> Edges
+        requires { letters < 65 }
+    {
+        let mut all = [None; ROWS];
+        let mut next: usize = 1;
+        for (from, row) in table.chunks_exact(letters + 1).enumerate() {
+            for (letter, cell) in row.iter().skip(1).enumerate() {
+                if usize::from(*cell) == next && next < ROWS {
+                    all[next] = Some(Edge { from, letter });
+                    next += 1;
+                }
+            }
+        }
+        Edges { all }
     }
-    edges
-}
 
-// Whether an edge is from an earlier state and by a letter, and comes after the edge of the state before it.
-fn is_next(before: u64, edge: u64, state: u64, letters: u64) -> bool {
-    (edge / BY < state) & (edge % BY < letters) & ((state == 1) | (before < edge))
-}
-
-// Whether the edge of the state after one is so.
-fn edge_right(edges: &[u64; ROWS], state: usize, letters: u64) -> bool {
-    let at = state % ROWS;
-    is_next(edges[at], edges[(at + 1) % ROWS], at as u64 + 1, letters)
-}
-
-// Whether so many states come up in order.
-pub fn edges_right(q: &[u64; SHEET], edges: &[u64; ROWS], states: usize) -> bool {
-    let mut right = states <= ROWS;
-    let mut state = 1;
-    while state < states {
-        right = right & edge_right(edges, state - 1, letters(q));
-        state += 1;
+    // Whether so many states come up in order, each by an edge from an earlier state that comes after the edge of the state before it.
+    pub fn are_right(&self, q: &Sheet, states: usize) -> bool {
+        let letters = q.letters();
+        let Some(edges) = self.all.get(..states) else {
+            return false;
+        };
+        let mut led = edges.iter().enumerate().skip(1);
+        let mut steps = edges.windows(2).skip(1);
+        led.all(|(state, edge)| edge.is_some_and(|edge| edge.leads_to(state, letters)))
+            && steps.all(|two| two[0] < two[1])
     }
-    right
-}
 
-// What the first word of a state spells, from its last letter back. Its power is 0 where it has too many letters.
-pub fn word_of(edges: &[u64; ROWS], state: usize) -> [u64; VALUES] {
-    let mut values = [0u64; VALUES];
-    let mut power = 1;
-    let mut at = state;
-    while 0 < at {
-        let edge = edges[at % ROWS];
-        put_letter(&mut values, edge % BY);
-        power = power % MOST * 2;
-        at = (edge / BY) as usize % at;
+    // What the first word of a state spells, from its last letter back.
+    pub fn word_of(&self, state: usize) -> Values {
+        let mut values = Values::EMPTY;
+        let mut at = state;
+        // From state to state, not through a list.
+        while 0 < at {
+            let Some(edge) = self.all[at % ROWS] else {
+                return values;
+            };
+            values.put_letter(edge.letter as u64);
+            at = edge.from.min(at - 1);
+        }
+        values
     }
-    values[CONSTANT] = 1;
-    values[POWER] = power;
-    values
 }

@@ -1,71 +1,46 @@
 // The held question of a sheet.
-use crate::sheet::{CONSTANT, N, SHEET, code, side};
+use crate::sheet::Sheet;
 use scope::Question;
 
-// The largest number of a question, without its sign.
-const MOST: u64 = Question::CONSTANT as u64;
+// A number by what stands on either side.
+fn signed(plus: u64, minus: u64) -> i32 {
+    let size = |side: u64| i32::try_from(side).unwrap_or(i32::MAX);
+    size(plus).saturating_sub(size(minus))
+}
 
-// A number by what stands on either side; no number has more than the largest constant.
-pub fn signed(plus: u64, minus: u64) -> i32 {
-    if MOST < plus {
-        return 0;
+fn codes_of(q: &Sheet) -> [u8; Question::NODES] {
+    let mut codes = [0u8; Question::NODES];
+    for (code, node) in codes.iter_mut().zip(q.nodes()) {
+        *code = u8::from(*node);
     }
-    if MOST < minus {
-        return 0;
-    }
-    plus as i32 - minus as i32
+    codes
 }
 
-fn narrow(number: u64) -> u8 {
-    if number < 256 { number as u8 } else { 0 }
-}
-
-fn codes_of(q: &[u64; SHEET]) -> [u8; Question::NODES] {
-    let mut all = [0u8; Question::NODES];
-    let mut i = 0;
-    while i < Question::NODES {
-        all[i] = narrow(code(q, i));
-        i += 1;
-    }
-    all
-}
-
-// The number in a column of an atom: what stands left, less what stands right.
-fn number_at(q: &[u64; SHEET], c: usize) -> i32 {
-    let atom = c / Question::VARIABLES;
-    let column = c % Question::VARIABLES;
-    signed(side(q, atom, 2 * column), side(q, atom, 2 * column + 1))
-}
-
-fn coefficients_of(q: &[u64; SHEET]) -> [i32; Question::COEFFICIENTS] {
+fn coefficients_of(q: &Sheet) -> [i32; Question::COEFFICIENTS] {
     let mut all = [0i32; Question::COEFFICIENTS];
-    let mut c = 0;
-    while c < Question::COEFFICIENTS {
-        all[c] = number_at(q, c);
-        c += 1;
+    for (row, atom) in all.chunks_exact_mut(Question::VARIABLES).zip(q.atoms()) {
+        let sides = atom.left.coefficients.iter().zip(&atom.right.coefficients);
+        for (number, (left, right)) in row.iter_mut().zip(sides) {
+            *number = signed(*left, *right);
+        }
     }
     all
 }
 
 // A constant stands right of the sign, so its sides are the other way round.
-fn constants_of(q: &[u64; SHEET]) -> [i32; Question::ATOMS] {
+fn constants_of(q: &Sheet) -> [i32; Question::ATOMS] {
     let mut all = [0i32; Question::ATOMS];
-    let mut i = 0;
-    while i < Question::ATOMS {
-        all[i] = signed(side(q, i, 2 * CONSTANT + 1), side(q, i, 2 * CONSTANT));
-        i += 1;
+    for (number, atom) in all.iter_mut().zip(q.atoms()) {
+        *number = signed(atom.right.constant, atom.left.constant);
     }
     all
 }
 
-pub fn question_of(q: &[u64; SHEET]) -> Question {
-    let codes = codes_of(q);
-    let coefficients = coefficients_of(q);
-    let constants = constants_of(q);
+pub fn question_of(q: &Sheet) -> Question {
     Question {
-        n: narrow(q[N]),
-        codes,
-        coefficients,
-        constants,
+        n: u8::try_from(q.variables).unwrap_or(u8::MAX),
+        codes: codes_of(q),
+        coefficients: coefficients_of(q),
+        constants: constants_of(q),
     }
 }

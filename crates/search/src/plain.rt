@@ -1,109 +1,102 @@
 // Whether values satisfy a question, in another way than the judge: every term is added on the side where it has no sign, and
 // the formula is settled from its last node to its first.
-use crate::sheet::{NODES, ROW, SHEET, atoms, code, kind, side};
+use crate::sheet::{Atom, Node, Relation, Sheet, Side};
 use scope::Question;
+use std::cmp::Ordering;
 
-// The values of the variables, then the constants' value, and then 2 to the letters of the word that spells them.
-pub const VALUES: usize = Question::VARIABLES + 2;
-
-pub const POWER: usize = VALUES - 1;
-
-// A product; nothing asks for one of larger numbers.
-pub fn times(a: u64, x: u64) -> u64 {
-    if 1_000_000 < a {
-        return 0;
-    }
-    if 1_099_511_627_776 < x {
-        return 0;
-    }
-    a * x
+// The values of the variables, the constants' value, and 2 to the letters of the word that spells them, where it is short enough.
+#[derive(Clone, Copy)]
+pub struct Values {
+    pub variables: [u64; Question::VARIABLES],
+    pub constant: u64,
+    pub power: Option<u64>,
 }
 
-pub fn plus(a: u64, b: u64) -> u64 {
-    if u64::MAX - a < b {
-        return u64::MAX;
-    }
-    a + b
+impl Values {
+    // The values that the empty word spells.
+    pub const EMPTY: Values = Values {
+        variables: [0; Question::VARIABLES],
+        constant: 1,
+        power: Some(1),
+    };
 }
 
-// A sum with what one side of an atom makes of the values: the left one from 0, the right one from 1.
-pub fn weighed(
-    start: u64,
-    q: &[u64; SHEET],
-    atom: usize,
-    from: usize,
-    values: &[u64; VALUES],
-) -> u64 {
-    let mut sum = start;
-    let mut cell = from;
-    while cell < ROW {
-        sum = plus(sum, times(side(q, atom, cell), values[cell / 2]));
-        cell += 2;
-    }
-    sum
+// A sum with what one side of an atom makes of the values.
+pub fn weighed(start: u64, side: &Side, values: &Values) -> u64 {
+    let constant = side.constant.saturating_mul(values.constant);
+    side.coefficients.iter().zip(&values.variables).fold(
+        start.saturating_add(constant),
+        |sum, (coefficient, value)| { sum.saturating_add(coefficient.saturating_mul(*value)) },
+    )
 }
 
-// The order of two numbers: 0 where they are equal, 1 where the left is less, 2 where it is more.
-pub fn order_of(left: u64, right: u64) -> u64 {
-    if left == right {
-        return 0;
-    }
-    if left < right { 1 } else { 2 }
+// The sums of an atom's sides.
+pub fn sides_of(atom: &Atom, values: &Values) -> (u64, u64) {
+    (
+        weighed(0, &atom.left, values),
+        weighed(0, &atom.right, values),
+    )
 }
 
-// A list of bits, the last one added lowest, with the truth of an atom by the order of its sides.
-pub fn with_atom(bits: u64, kind: u64, order: u64) -> u64 {
-    pushed(bits, (order == 0) | ((order == 1) & (kind == 2)))
-}
-
-fn pushed(bits: u64, bit: bool) -> u64 {
-    let kept = bits % 4_294_967_296 * 2;
-    if bit { kept + 1 } else { kept }
-}
-
-// The truths of the parts still to be joined, with a node: an atom's truth is the lowest of those left.
-fn joined(stack: u64, code: u64, truths: u64) -> u64 {
-    match code {
-        3 => pushed(stack / 2, stack % 2 == 0),
-        4 => pushed(stack / 4, stack % 4 == 3),
-        5 => pushed(stack / 4, stack % 4 != 0),
-        _ => pushed(stack, truths % 2 == 1),
+impl Relation {
+    // Whether it holds of sides in an order.
+    fn holds(self, order: Ordering) -> bool {
+        match self {
+            Relation::Equation => order == Ordering::Equal,
+            Relation::AtMost => order != Ordering::Greater,
+        }
     }
 }
 
-fn left_after(truths: u64, code: u64) -> u64 {
-    if code < 3 { truths / 2 } else { truths }
+// Truths, the last one pushed lowest.
+#[derive(Drop)]
+struct Truths {
+    bits: u64,
 }
 
-// The formula's truth by its atoms' truths, of which the last atom's is the lowest bit.
-pub fn settled(q: &[u64; SHEET], truths: u64) -> bool {
-    let mut left = truths;
-    let mut stack = 0;
-    let mut i = q[NODES] as usize;
-    while 0 < i {
-        i -= 1;
-        let node = code(q, i);
-        stack = joined(stack, node, left);
-        left = left_after(left, node);
+impl Truths {
+    fn push(&mut self, truth: bool) {
+        let kept = self.bits % 4_294_967_296 * 2;
+        self.bits = if truth { kept + 1 } else { kept };
     }
-    stack == 1
+
+    fn pop(&mut self) -> bool {
+        let last = self.bits % 2 == 1;
+        self.bits /= 2;
+        last
+    }
+}
+
+// Joins the parts of a node to its truth; an atom's is the last of those left.
+fn join(node: Node, parts: &mut Truths, atoms: &mut Truths) {
+    let truth = match node {
+        Node::Atom(_) => atoms.pop(),
+        Node::Not => !parts.pop(),
+        Node::And => parts.pop() & parts.pop(),
+        Node::Or => parts.pop() | parts.pop(),
+    };
+    parts.push(truth);
+}
+
+// The formula's truth, by the order of each atom's sides.
+pub fn satisfied_by<F: Fn(&Atom) -> Ordering>(q: &Sheet, order: F) -> bool
+    requires { F.IsAlwaysCallable order }
+{
+    let mut atoms = Truths { bits: 0 };
+    for atom in q.atoms() {
+        atoms.push(atom.relation.holds(order(atom)));
+    }
+    let mut parts = Truths { bits: 0 };
+    for node in q.nodes().iter().rev() {
+        join(*node, &mut parts, &mut atoms);
+    }
+    parts.pop()
 }
 
 // Whether values, and 1 for the constants, satisfy the question.
-pub fn satisfied(q: &[u64; SHEET], values: &[u64; VALUES]) -> bool {
-    let m = atoms(q);
-    let mut bits = 0;
-    let mut atom = 0;
-    while atom < m {
-        let left = weighed(0, q, atom, 0, values);
-        let right = weighed(0, q, atom, 1, values);
-        bits = with_atom(bits, kind(q, atom), order_of(left, right));
-        atom += 1;
-    }
-    settled(q, bits)
-}
-
-// The same by a number.
-pub fn truth(q: &[u64; SHEET], values: &[u64; VALUES]) -> u64 {
-    if satisfied(q, values) { 1 } else { 0 }
+pub fn satisfied(q: &Sheet, values: &Values) -> bool {
+    satisfied_by(q, |atom| {
+        let (left, right) = sides_of(atom, values);
+        left.cmp(&right)
+    })
 }

@@ -1,64 +1,90 @@
-// A question as one sheet of numbers without signs, so that a search takes one array. Row i is atom i's, two cells a column: what
-// stands left and what stands right when every term is on the side where it is added. The variables' columns come first and then
-// the constant's. After the rows come the atoms' codes, the formula's codes, and the sizes.
-// A place beyond its part of the sheet is taken round: no search asks for one, and none is left to prove.
+// A question without signs: every term of an atom stands on the side where it is added.
 ghost use Rattle.std.specs.Prelude.{◌≤◌};
 
 use scope::Question;
 
-// The constant's column, the columns of a row, and its cells.
-pub const CONSTANT: usize = Question::VARIABLES;
-
-pub const COLUMNS: usize = CONSTANT + 1;
-
-pub const ROW: usize = 2 * COLUMNS;
-
-// Where the atoms' codes stand, the formula's codes, how many variables, atoms and nodes there are, the last letter, and the seed
-// after those that the sheet was drawn by.
-pub const KINDS: usize = ROW * Question::ATOMS;
-
-pub const CODES: usize = KINDS + Question::ATOMS;
-
-pub const N: usize = CODES + Question::NODES;
-
-pub const M: usize = N + 1;
-
-pub const NODES: usize = N + 2;
-
-pub const LAST: usize = N + 3;
-
-pub const SEED: usize = N + 4;
-
-pub const SHEET: usize = N + 5;
-
-// A cell of an atom's row.
-pub fn side(q: &[u64; SHEET], atom: usize, cell: usize) -> u64 {
-    q[ROW * (atom % Question::ATOMS) + cell % ROW]
+// The sign between an atom's sides.
+#[derive(Clone, Copy, PartialEq, Eq, Debug)]
+pub enum Relation {
+    Equation,
+    AtMost,
 }
 
-// The code of an atom.
-pub fn kind(q: &[u64; SHEET], atom: usize) -> u64 {
-    q[KINDS + atom % Question::ATOMS]
+// A node of the formula.
+#[derive(Clone, Copy, PartialEq, Eq, Debug)]
+pub enum Node {
+    Atom(Relation),
+    Not,
+    And,
+    Or,
 }
 
-// The code of a node.
-pub fn code(q: &[u64; SHEET], i: usize) -> u64 {
-    q[CODES + i % Question::NODES]
+// A node's code in a held question.
+impl From<Node> for u8 {
+    fn from(node: Node) -> u8 {
+        match node {
+            Node::Atom(Relation::Equation) => 1,
+            Node::Atom(Relation::AtMost) => 2,
+            Node::Not => 3,
+            Node::And => 4,
+            Node::Or => 5,
+        }
+    }
 }
 
-// How many atoms the question has.
-pub fn atoms(q: &[u64; SHEET]) -> usize {
-    q[M] as usize
+// What is added on one side of an atom.
+#[derive(Clone, Copy)]
+pub struct Side {
+    pub coefficients: [u64; Question::VARIABLES],
+    pub constant: u64,
 }
 
-// How many variables it has.
-pub fn variables(q: &[u64; SHEET]) -> usize {
-    q[N] as usize
+impl Side {
+    pub const EMPTY: Side = Side {
+        coefficients: [0; Question::VARIABLES],
+        constant: 0,
+    };
 }
 
-// How many letters it has.
-pub fn letters(q: &[u64; SHEET]) -> u64
-    ensures { (1 ≤ result) × (result ≤ 64) }
-{
-    q[LAST] % 64 + 1
+#[derive(Clone, Copy)]
+pub struct Atom {
+    pub relation: Relation,
+    pub left: Side,
+    pub right: Side,
+}
+
+impl Atom {
+    pub const EMPTY: Atom = Atom {
+        relation: Relation::Equation,
+        left: Side::EMPTY,
+        right: Side::EMPTY,
+    };
+}
+
+// The atoms and the nodes, each before its parts, of which the first so many count.
+#[derive(Drop)]
+pub struct Sheet {
+    pub variables: usize,
+    pub m: usize,
+    pub rows: [Atom; Question::ATOMS],
+    pub size: usize,
+    pub formula: [Node; Question::NODES],
+    ghost few: { variables ≤ 6 },
+}
+
+impl Sheet {
+    pub fn atoms(&self) -> &[Atom] {
+        self.rows.get(..self.m).unwrap_or(&[])
+    }
+
+    pub fn nodes(&self) -> &[Node] {
+        self.formula.get(..self.size).unwrap_or(&[])
+    }
+
+    // How many letters its words are of.
+    pub fn letters(&self) -> usize
+        ensures { (1 ≤ result) × (result ≤ 64) }
+    {
+        scope::letters(self.variables)
+    }
 }

@@ -1,136 +1,96 @@
 // Words and their numbers in the order of words, shorter first and then by the first letter that differs, and what words spell.
-ghost use Rattle.std.specs.Prelude.{◌≤◌, ◌<◌, length};
+ghost use Rattle.std.specs.Prelude.{◌≤◌, ◌<◌};
 
-use crate::plain::{POWER, VALUES, plus, times};
-use crate::sheet::CONSTANT;
+use crate::plain::Values;
 
 // A number that is doubled at most, so that what 40 letters spell is whole.
 const MOST: u64 = 549_755_813_888;
 
-fn wide(letter: u8) -> u64 {
-    letter as u64
-}
-
-// Makes the values those of the word with a letter before all others.
-pub fn put_letter(values: &mut [u64; VALUES], letter: u64) {
-    let mut rest = letter;
-    let mut j = 0;
-    while j < CONSTANT {
-        values[j] = values[j] % MOST * 2 + rest % 2;
-        rest = rest / 2;
-        j += 1;
+impl Values {
+    // Makes the values those of the word with a letter before all others.
+    pub fn put_letter(&mut self, letter: u64) {
+        let mut rest = letter;
+        for value in self.variables.iter_mut() {
+            *value = *value % MOST * 2 + rest % 2;
+            rest /= 2;
+        }
+        self.power = self
+            .power
+            .filter(|power| *power < MOST)
+            .map(|power| power.saturating_mul(2));
     }
-}
 
-// The values with a letter after all others.
-pub fn values_on(values: [u64; VALUES], letter: u64) -> [u64; VALUES] {
-    let mut all = values;
-    let power = all[POWER];
-    let mut rest = letter;
-    let mut j = 0;
-    while j < CONSTANT {
-        all[j] = plus(all[j], times(rest % 2, power));
-        rest = rest / 2;
-        j += 1;
+    // The values with a letter after all others, where the word is short enough.
+    pub fn with_letter(&self, letter: u64) -> Values {
+        let power = self.power.unwrap_or(0);
+        let mut all = *self;
+        let mut rest = letter;
+        for value in all.variables.iter_mut() {
+            *value = value.saturating_add((rest % 2).saturating_mul(power));
+            rest /= 2;
+        }
+        all.power = self.power.map(|power| power.saturating_mul(2));
+        all
     }
-    all[POWER] = plus(power, power);
-    all
-}
 
-// What at most 40 letters of a word spell, from a place up to another, and the constants' value.
-pub fn values_of(word: &[u8], from: usize, to: usize, constant: u64) -> [u64; VALUES]
-    requires { to ≤ length word.now }
-{
-    let mut values = [0u64; VALUES];
-    let mut i = to;
-    while from < i {
-        i -= 1;
-        put_letter(&mut values, wide(word[i]));
+    // What a word spells of at most 40 letters.
+    pub fn of(word: &[u8]) -> Values {
+        let mut values = Values::EMPTY;
+        for letter in word.iter().rev() {
+            values.put_letter(u64::from(*letter));
+        }
+        values
     }
-    values[CONSTANT] = constant;
-    values
-}
-
-// The number of a word's front without its last letter; words are numbered from 0.
-fn front_number(number: u64, letters: u64) -> u64
-    requires number_nonzero { 0 < number }
-    requires letters_nonzero { 0 < letters }
-    ensures { result < number }
-{
-    (number - 1) / letters
-}
-
-// A word's last letter.
-fn last_letter(number: u64, letters: u64) -> u64
-    requires number_nonzero { 0 < number }
-    requires letters_nonzero { 0 < letters }
-    requires letters_bound { letters ≤ 64 }
-    ensures { result < 64 }
-{
-    (number - 1) % letters
-}
-
-// What the word of a number spells.
-pub fn values_at(number: u64, letters: u64) -> [u64; VALUES]
-    requires letters_nonzero { 0 < letters }
-    requires letters_bound { letters ≤ 64 }
-{
-    let mut values = [0u64; VALUES];
-    let mut left = number;
-    while 0 < left {
-        put_letter(&mut values, last_letter(left, letters));
-        left = front_number(left, letters);
-    }
-    values[CONSTANT] = 1;
-    values
 }
 
 // The letters of a word that is written down at most.
-pub const SHORT: usize = 16;
+const SHORT: usize = 16;
 
-// The word of a number, at the end of what is answered.
-pub fn word_at(number: u64, letters: u64) -> [u8; SHORT]
-    requires letters_nonzero { 0 < letters }
-    requires letters_bound { letters ≤ 64 }
-{
-    let mut word = [0u8; SHORT];
-    let mut left = number;
-    let mut at = 0;
-    while 0 < left {
-        at = (at + SHORT - 1) % SHORT;
-        word[at] = last_letter(left, letters) as u8;
-        left = front_number(left, letters);
-    }
-    word
+// A word of few letters.
+#[derive(Drop)]
+pub struct Short {
+    letters: [u8; SHORT],
+    start: usize,
+    ghost inside: { start ≤ 16 },
 }
 
-// Where it starts there.
-pub fn start_of(number: u64, letters: u64) -> usize
-    requires { 0 < letters }
-{
-    let mut left = number;
-    let mut at = SHORT;
-    while 0 < left {
-        at = (at + SHORT - 1) % SHORT;
-        left = front_number(left, letters);
+impl Short {
+    // The word of a number; words are numbered from 0. The last letter of one is the rest of the number before it, and what stands before
+    // that letter is the word of the quotient.
+    pub fn numbered(number: u64, count: usize) -> Short
+        requires letters_nonzero { 0 < count }
+        requires letters_bound { count ≤ 64 }
+    {
+        let mut letters = [0u8; SHORT];
+        let mut start = SHORT;
+        let mut left = number;
+        for at in (0..SHORT).rev() {
+            if left == 0 {
+                break;
+            }
+            left -= 1;
+            letters[at] = (left % count as u64) as u8;
+            left /= count as u64;
+            start = at;
+        }
+        Short { letters, start }
     }
-    at
-}
 
-fn number_on(number: u64, letters: u64, letter: u8) -> u64 {
-    if 1_000_000 < number {
-        return number;
+    pub fn as_slice(&self) -> &[u8] {
+        &self.letters[self.start..]
     }
-    plus(times(number, letters), plus(wide(letter), 1))
 }
 
 // The number of a word, where it is no more than a million.
-pub fn number_of(word: &[u8], letters: u64) -> u64 {
-    let mut number = 0;
-    let mut i = 0;
-    while i < word.len() {
-        number = number_on(number, letters, word[i]);
-        i += 1;
-    }
-    number
+pub fn number_of(word: &[u8], count: usize) -> u64 {
+    word.iter().fold(0, |number: u64, letter| {
+        if 1_000_000 < number {
+            number
+        } else {
+            number
+                .saturating_mul(count as u64)
+                .saturating_add(u64::from(*letter))
+                .saturating_add(1)
+        }
+    })
 }

@@ -10,7 +10,6 @@ use base.Fml.{Lft}
 use denote.Ref.{Bor}
 use denote.MutBor.{MutBor}
 use Rattle.scope.specs.declared.Refusal.{Refusal}
-use Rattle.scope.specs.declared.ReadAnswer.{ReadAnswer}
 use Rattle.scope.specs.Words.{Word, spelled}
 use Rattle.smtlib.specs.Forms.{forms_of}
 use Rattle.smtlib.specs.Meaning.{text_holds}
@@ -18,7 +17,7 @@ use Rattle.smtlib.specs.Names.{valued}
 use Rattle.smtlib.specs.Accepted.{declared_names}
 use Rattle.told.specs.Text.{ascii}
 use Rattle.said.specs.Said.{error_line, model_lines}
-use Rattle.importing.specs.Given.{bounds_if}
+use Rattle.importing.specs.Given.{names_given}
 use Rattle.smt.specs.Solved.{names_count, solved}
 use Rattle.smt.specs.Printed.{StartsWith, UnsatPrinted, SatPrinted, UnknownPrinted, ErrorPrinted, unsat_printed, sat_printed, unknown_printed, error_printed, error_line_lem, unsat_means, sat_model}
 use Rattle.smt.proofs.answer_to.Reads as answer-to
@@ -43,7 +42,7 @@ module _ (κ μ : Lft) (text : Bor (List ℕ)) (out out₁ : MutBor (List ℕ)) 
   -- then the word's values satisfy the text, and where it has at most 64 letters they are what is printed
   pub sat_holds : (b : StartsWith (ascii "sat\n") (take r out₁.now)) → (word : Word)
       × (text_holds (valued (declared_names text.now) (spelled (names_count text.now) word)) (forms_of text.now) ≡ true)
-      × (length word ≤ 64 → take r out₁.now ≡ ascii "sat\n" ++ model_lines text.now (bounds_if ReadAnswer.Accepted text.now) (names_count text.now) word)
+      × (length word ≤ 64 → take r out₁.now ≡ ascii "sat\n" ++ model_lines text.now (names_given text.now) (names_count text.now) word)
   sat_holds b =
       let s = prints_sat.0 b in
       let m = sat_model text.now s in

@@ -1,15 +1,14 @@
 -- What the room of the program smt means for an accepted text: R is 8,191 for any m, a found word has room, and its values are told up to 64 letters.
-use Rattle.std.specs.Prelude.{ℕ, ◌*◌, ◌/◌, ◌≤◌, ◌<◌, ◌≡◌, refl, ◌≢◌, true, List, length, ℤ, pos}
+use Rattle.std.specs.Prelude.{ℕ, ◌*◌, ◌/◌, ◌≤◌, ◌<◌, ◌≡◌, refl, ◌≢◌, true, List, length, ℤ, pos, Ok, Result, IsOk, is_ok}
 use Rattle.std.proofs.Common.{le-div_iff_mul-le, arith, sym, ap, ◌∙◌, subst, le-leb}
 use Rattle.std.proofs.lemmas.List.{length-replicate}
 use Rattle.std.specs.Float.Ieee.Bits.{is_true}
+use Rattle.scope.specs.declared.Refusal.{Refusal}
+use Rattle.scope.specs.declared.Decision.{Decision}
 use Rattle.scope.specs.declared.Question.{Question}
-use Rattle.scope.specs.declared.ReadAnswer.{ReadAnswer}
-use Rattle.scope.specs.declared.DecideAnswer.{DecideAnswer}
-use Rattle.scope.specs.declared.Held.{Held}
 use Rattle.scope.specs.Sizes.{variables_fit}
 use Rattle.scope.specs.Question.{atom_count}
-use Rattle.scope.specs.Wire.{read_held}
+use Rattle.scope.specs.Wire.{read_held, question_held}
 use Rattle.scope.specs.Words.{Word, Over, letters, letters_fit}
 use Rattle.scope.specs.Tree.{question_bytes, true_for, IsQuestion}
 use Rattle.scope.specs.Deciding.{decide_room}
@@ -24,7 +23,7 @@ use Rattle.theory.specs.Trees.Written.{held_written}
 use Rattle.theory.specs.Calls.Decided.{RowFound, letters_fewer}
 use Rattle.theory.specs.Calls.Questions.{found_as, short_as}
 use Rattle.smtlib.specs.Imported.{imported}
-use Rattle.smtlib.specs.Cases.{question_in}
+use Rattle.smtlib.specs.Cases.{question_in, accepted_exactly, accepted_import}
 use Rattle.smtlib.proofs.Accepted.{accepted_faultless, accepted_few, accepted_within}
 use Rattle.told.specs.Values.{Spellable, spelt_value}
 use Rattle.said.specs.Said.{model_lines, model_said}
@@ -50,11 +49,14 @@ pub text_bytes_are : (text : List ℕ) → text_bytes text ≡ question_bytes (n
 unfolding text_bytes
 text_bytes_are text = refl
 
-module _ (text : List ℕ) (accepted : (imported text).answer ≡ ReadAnswer.Accepted) where
+module _ (text : List ℕ) (accepted : IsOk (imported text)) where
+  pub text_imported : imported text ≡ Ok (question_in text)
+  text_imported = accepted_import text ((accepted_exactly text).0 accepted)
+
   abbrev pub text_question : IsQuestion (text_bytes text)
   text_question = record { n = names_count text; tree = text_tree text; within = accepted_within text accepted; bytes_are = text_bytes_are text }
 
-  pub text_read : read_held (text_bytes text) ≡ record { answer = ReadAnswer.Accepted; question = question_in text }
+  pub text_read : read_held (text_bytes text) ≡ Ok (question_in text)
   text_read = question_read (text_bytes text) text_question
 
   pub text_octets : Octets (text_bytes text)
@@ -65,10 +67,10 @@ module _ (text : List ℕ) (accepted : (imported text).answer ≡ ReadAnswer.Acc
   -- R is 8,191, however many atoms the question has
   pub text_room : decide_room (question_in text) solve_keys solve_path ≡ most_rows
   text_room =
-      ap (λ (h : Held). decide_room h.question solve_keys solve_path) (sym text_read)
-      ∙ room_is (read_held (text_bytes text)).question solve_keys solve_path (wire.accepted_within (text_bytes text) (ap (λ (h : Held). h.answer) text_read)) (length-replicate 65528 (pos 0)) (length-replicate {A = ℕ} 16382 0)
+      ap (λ (h : Result Question Refusal). decide_room (question_held h) solve_keys solve_path) (sym text_read)
+      ∙ room_is (question_held (read_held (text_bytes text))) solve_keys solve_path (wire.accepted_within (text_bytes text) (ap is_ok text_read)) (length-replicate 65528 (pos 0)) (length-replicate {A = ℕ} 16382 0)
 
-  pub found_in_lem : (states k : ℕ) → (solved_for text).answer ≡ DecideAnswer.Found states k → RowFound (question_in text) (true_for (text_tree text)) most_rows states k
+  pub found_in_lem : (states k : ℕ) → (solved_for text).answer ≡ Ok (Decision.Found states k) → RowFound (question_in text) (true_for (text_tree text)) most_rows states k
   unfolding solved_for
   found_in_lem states k e = rw text_room at ((found_as (text_bytes text) solve_keys solve_path solve_word text_question states k).0 e).0
 
@@ -76,11 +78,11 @@ module _ (text : List ℕ) (accepted : (imported text).answer ≡ ReadAnswer.Acc
   few_letters : {states k : ℕ} → RowFound (question_in text) (true_for (text_tree text)) most_rows states k → k ≤ length solve_word
   few_letters f = omega (arith, f.states_are, f.found_at.room, letters_fewer f, length-replicate {A = ℕ} 8191 0)
 
-  pub in_found : (states k : ℕ) → RowFound (question_in text) (true_for (text_tree text)) most_rows states k → (solved_for text).answer ≡ DecideAnswer.Found states k
+  pub in_found : (states k : ℕ) → RowFound (question_in text) (true_for (text_tree text)) most_rows states k → (solved_for text).answer ≡ Ok (Decision.Found states k)
   unfolding solved_for
   in_found states k f = (found_as (text_bytes text) solve_keys solve_path solve_word text_question states k).1 (rw (sym text_room) at f, few_letters f)
 
-  pub not_short : (states k : ℕ) → (solved_for text).answer ≢ DecideAnswer.Short states k
+  pub not_short : (states k : ℕ) → (solved_for text).answer ≢ Ok (Decision.Short states k)
   unfolding solved_for
   not_short states k e =
       let s = (short_as (text_bytes text) solve_keys solve_path solve_word text_question states k).0 e in

@@ -1,9 +1,7 @@
 -- What the program smt prints of a text: a text of at most 65,536 bytes is imported, and its question is decided in room for 8,191 states, for any m.
-use Rattle.std.specs.Prelude.{ℕ, ◌≤◌, ◌≡◌, cond, List, length, take, replicate, leb, ℤ, pos}
+use Rattle.std.specs.Prelude.{ℕ, ◌≤◌, ◌≡◌, cond, List, length, take, replicate, leb, ℤ, pos, Ok, Err, Result}
+use Rattle.scope.specs.declared.Refusal.{Refusal}
 use Rattle.scope.specs.declared.Question.{Question}
-use Rattle.scope.specs.declared.ReadAnswer.{ReadAnswer}
-use Rattle.scope.specs.Refusals.{ended}
-use Rattle.scope.specs.Writing.{Walk, written}
 use Rattle.scope.specs.Tree.{Tree, question_bytes, IsHeld}
 use Rattle.scope.specs.Deciding.{Decided, decided}
 use Rattle.smtlib.specs.Imported.{tree_of, imported}
@@ -11,7 +9,7 @@ use Rattle.smtlib.specs.Cases.{script_in, formula_in}
 use Rattle.told.specs.Text.{ascii}
 use Rattle.told.specs.Writers.{Put}
 use Rattle.said.specs.Said.{error_line, said_of}
-use Rattle.importing.specs.Given.{bounds_if}
+use Rattle.importing.specs.Given.{names_given}
 
 abbrev pub most_text : ℕ
 most_text = 65536
@@ -45,18 +43,13 @@ unfoldable pub said_in : List ℕ → List ℕ → ℕ → List ℕ → List ℕ
 said_in text names n bytes = let d = decided bytes solve_keys solve_path solve_word in said_of text names n d.answer d.word
 
 -- what is said, by the import's answer
-abbrev pub said_by : ReadAnswer → List ℕ → List ℕ
-said_by (ReadAnswer.Refused r) text = error_line r
-said_by ReadAnswer.Accepted text = said_of text (bounds_if ReadAnswer.Accepted text) (imported text).question.n (solved_for text).answer (solved_for text).word
+abbrev pub said_by : Result Question Refusal → List ℕ → List ℕ
+said_by (Err r) text = error_line r
+said_by (Ok q) text = said_of text (names_given text) q.n (solved_for text).answer (solved_for text).word
 
 -- what is printed
 unfoldable pub solved : List ℕ → List ℕ
-solved text = cond (leb (length text) most_text) (said_by (imported text).answer text) (ascii "unknown\n")
-
--- a question's bytes at the front of a buffer that has room for them
-pub record QuestionPut (q : Question) (before : List ℕ) (r : ℕ) (after : List ℕ) : Type 0 where
-  pub within : r ≤ length after
-  pub front : (w : Walk) → written q ≡ ended w → length w.bytes ≤ length before → take r after ≡ w.bytes
+solved text = cond (leb (length text) most_text) (said_by (imported text) text) (ascii "unknown\n")
 
 -- what is said of a question's bytes is put at the front of the buffer
 abbrev pub HeldSaid : List ℕ → List ℕ → Question → List ℕ → ℕ → List ℕ → Type 0

@@ -4,12 +4,12 @@
 ghost use Rattle.std.specs.Prelude.{◌≤◌, length, replicate};
 ghost use Rattle.told.specs.Writers.{Put};
 ghost use Rattle.said.specs.Said.{said_of, say_room, BoundsStand};
-ghost use Rattle.smt.specs.Solved.{said_in, QuestionPut, HeldSaid, Solved};
+ghost use Rattle.smt.specs.Solved.{said_in, HeldSaid, Solved};
 
 use decide::decide;
 use importing::import;
 use said::say;
-use scope::{DecideAnswer, Question, ReadAnswer, WriteAnswer};
+use scope::{Decision, Question, Refusal};
 use std::io;
 use std::io::Write;
 use writing::write;
@@ -41,29 +41,22 @@ fn decide_bytes(text: &[u8], names: &[usize], n: usize, bytes: &[u8], out: &mut 
     say(text, names, n, answer, &word, out)
 }
 
-// Writes a question and answers how many bytes it has; none where it is refused.
-fn put_question(question: Question, bytes: &mut [u8]) -> usize
-    ensures { QuestionPut question bytes.old result bytes.new }
-{
-    match write(question, bytes) {
-        WriteAnswer::Written(count) => count,
-        WriteAnswer::Refused(_) => 0,
-    }
-}
-
 // Decides a held question, and says of the text what was decided.
 fn decide_held(text: &[u8], names: &[usize], question: Question, out: &mut [u8]) -> usize
     requires { BoundsStand names.now question.n × (say_room (length text.now) ≤ length out.old) }
     ensures { HeldSaid text.now names.now question out.old result out.new }
 {
-    let n = question.n as usize;
+    let n = usize::from(question.n);
     let mut bytes = [0u8; Question::BYTES];
-    let count = put_question(question, &mut bytes);
-    decide_bytes(text, names, n, &bytes[..count], out)
+    match write(&question, &mut bytes) {
+        Ok(count) => decide_bytes(text, names, n, &bytes[..count], out),
+        // No question that is imported comes here.
+        Err(refusal) => say(text, names, n, Err(refusal), &bytes, out),
+    }
 }
 
 // Says an answer that tells no value.
-fn say_alone(text: &[u8], answer: DecideAnswer, out: &mut [u8]) -> usize
+fn say_alone(text: &[u8], answer: Result<Decision, Refusal>, out: &mut [u8]) -> usize
     requires { say_room (length text.now) ≤ length out.old }
     ensures { Put (said_of text.now (replicate 2 0) 0 answer text.now) 0 out.old result out.new }
 {
@@ -77,16 +70,12 @@ fn answer_to(text: &[u8], out: &mut [u8]) -> usize
     ensures { Solved text.now result out.new }
 {
     if TEXT < text.len() {
-        return say_alone(text, DecideAnswer::NoRoom { states: 0 }, out);
+        return say_alone(text, Ok(Decision::NoRoom { states: 0 }), out);
     }
-    let given = import(text);
-    let held = given.held;
-    let answer = held.answer;
-    if let ReadAnswer::Refused(refusal) = answer {
-        return say_alone(text, DecideAnswer::Refused(refusal), out);
+    match import(text) {
+        Ok(given) => decide_held(text, &given.names, given.question, out),
+        Err(refusal) => say_alone(text, Err(refusal), out),
     }
-    let names = given.names;
-    decide_held(text, &names, held.question, out)
 }
 
 fn main(rt: HostRuntime) -> io::Result<()> {

@@ -1,11 +1,10 @@
 -- An accepted text: no fault, from one to six names, each with its sign assertion, some other assertion; and what is held of it is a question.
-use Rattle.std.specs.Prelude.{◌≡◌, ℕ, ◌<◌, ◌≤◌, T, ltb, length}
+use Rattle.std.specs.Prelude.{◌≡◌, ℕ, ◌<◌, ◌≤◌, T, ltb, length, IsOk}
 use Rattle.std.proofs.Common.{sym, ap, ◌∙◌, ltb-true}
 use mathlib.Core.List.{List, [], ◌++◌, cons≢nil}
 use Rattle.std.proofs.lemmas.List.{length-map}
+use Rattle.scope.specs.Wire.{question_held}
 use Rattle.scope.specs.declared.Question.{Question}
-use Rattle.scope.specs.declared.ReadAnswer.{ReadAnswer}
-use Rattle.scope.specs.declared.Held.{Held}
 use Rattle.scope.specs.Sizes.{most_variables}
 use Rattle.scope.specs.Tree.{within_limits, question_bytes, IsHeld}
 use Rattle.scope.specs.Refusals.{ended}
@@ -47,7 +46,7 @@ faultless end s e f =
 
 -- ---- an accepted text
 
-module _ (text : List ℕ) (accepted : (imported text).answer ≡ ReadAnswer.Accepted) where
+module _ (text : List ℕ) (accepted : IsOk (imported text)) where
   passes : ImportAccepted text
   passes = (accepted_exactly text).0 accepted
 
@@ -57,11 +56,11 @@ module _ (text : List ℕ) (accepted : (imported text).answer ≡ ReadAnswer.Acc
   pub accepted_few : length (script_in text).declarations ≤ most_variables
   accepted_few = few_names (forms_of text) accepted_faultless.beyond
 
-  pub accepted_question : (imported text).question ≡ question_in text
-  accepted_question = ap (λ (h : Held). h.question) (accepted_import text passes)
+  pub accepted_question : (question_held (imported text)) ≡ question_in text
+  accepted_question = ap question_held (accepted_import text passes)
 
   -- a variable for each name
-  pub variables_names : (imported text).question.n ≡ length (declared_names text)
+  pub variables_names : (question_held (imported text)).n ≡ length (declared_names text)
   variables_names = ap (λ (q : Question). q.n) accepted_question ∙ sym (length-map (script_in text).declarations (λ (d : Declaration). d.name))
 
   pub accepted_within : let n = length (script_in text).declarations in T (within_limits n (tree_of n (formula_in text)))
@@ -69,13 +68,13 @@ module _ (text : List ℕ) (accepted : (imported text).answer ≡ ReadAnswer.Acc
       let n : ℕ = length (script_in text).declarations in
       passed_within n (formula_in text) accepted_faultless.named accepted_few (script_six (forms_of text)) (none_passed (limit_checks text) passes.small)
 
-  pub imported_question : IsHeld (imported text).question
+  pub imported_question : IsHeld (question_held (imported text))
   imported_question =
       let n : ℕ = length (script_in text).declarations in
       record { n = n; tree = tree_of n (formula_in text); within = accepted_within; held_is = accepted_question }
 
   -- so it is written, as the bytes of its tree
-  pub imported_written : (w : Walk) × (written (imported text).question ≡ ended w) × (w.bytes ≡ question_bytes imported_question.n imported_question.tree)
+  pub imported_written : (w : Walk) × (written (question_held (imported text)) ≡ ended w) × (w.bytes ≡ question_bytes imported_question.n imported_question.tree)
   imported_written =
       let (w, e, b) = held_written imported_question.n imported_question.tree imported_question.within in
       (w, ap written imported_question.held_is ∙ e, b)

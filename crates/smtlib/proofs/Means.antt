@@ -1,15 +1,15 @@
 -- What a text says is what its question says, for the naturals that its names have; and every model over the integers is of naturals.
-use Rattle.std.specs.Prelude.{◌≡◌, refl, Bool, true, false, ◌&&◌, List, [], ◌∷◌, ℕ, ◌<◌, length, ℤ, pos, negsuc}
+use Rattle.std.specs.Prelude.{◌≡◌, refl, Bool, true, false, ◌&&◌, List, [], ◌∷◌, ℕ, ◌<◌, length, ℤ, pos, negsuc, IsOk}
 use Rattle.std.proofs.Common.{sym, ap, ◌∙◌, true≢false, arith}
 use Rattle.std.proofs.Math.Bool.{and-true}
 use Rattle.std.proofs.lemmas.List.{length-map}
 use Rattle.std.specs.Int.Signed.{le_z}
 use Rattle.scope.specs.declared.Question.{Question}
-use Rattle.scope.specs.declared.ReadAnswer.{ReadAnswer}
 use Rattle.scope.specs.States.{satisfied}
 use Rattle.scope.specs.Tree.{true_for}
 use Rattle.theory.specs.Trees.Means.{tree_means}
 use Rattle.theory.specs.Numbers.Joined.{Each}
+use Rattle.scope.specs.Wire.{question_held}
 use Rattle.smtlib.specs.Forms.{forms_of}
 use Rattle.smtlib.specs.Formulas.{Formula, Clause, joined_at}
 use Rattle.smtlib.specs.Script.{unless, Declaration, names_of, unsigned}
@@ -52,8 +52,8 @@ all_natural v (d ∷ ds) h e =
 
 -- ---- an accepted text
 
-module _ (text : List ℕ) (accepted : (imported text).answer ≡ ReadAnswer.Accepted) where
-  pub text_means : (v : List ℕ → ℤ) (xs : List ℕ) → GivesNames v (declared_names text) xs → text_holds v (forms_of text) ≡ satisfied (imported text).question xs
+module _ (text : List ℕ) (accepted : IsOk (imported text)) where
+  pub text_means : (v : List ℕ → ℤ) (xs : List ℕ) → GivesNames v (declared_names text) xs → text_holds v (forms_of text) ≡ satisfied (question_held (imported text)) xs
   text_means v xs g =
       let n : ℕ = length (script_in text).declarations in
       let count : length (declared_names text) ≡ n = length-map (script_in text).declarations (λ (d : Declaration). d.name) in
@@ -65,13 +65,13 @@ module _ (text : List ℕ) (accepted : (imported text).answer ≡ ReadAnswer.Acc
       ∙ sym (tree_means n (tree_of n (formula_in text)) (accepted_within text accepted) xs)
       ∙ ap (λ (q : Question). satisfied q xs) (sym (accepted_question text accepted))
 
-  pub model_natural : (v : List ℕ → ℤ) → text_holds v (forms_of text) ≡ true → (xs : List ℕ) × (length xs ≡ (imported text).question.n) × GivesNames v (declared_names text) xs
+  pub model_natural : (v : List ℕ → ℤ) → text_holds v (forms_of text) ≡ true → (xs : List ℕ) × (length xs ≡ (question_held (imported text)).n) × GivesNames v (declared_names text) xs
   model_natural v e =
       let (xs, g) = all_natural v (script_in text).declarations (signed_hold v (forms_of text) e) (accepted_faultless text accepted).signed in
       (xs, gives_length v (declared_names text) xs g ∙ sym (variables_names text accepted), g)
 
   -- where no naturals satisfy the question, no integers are a model of the text
-  pub never_no_integers : ((xs : List ℕ) → length xs ≡ (imported text).question.n → satisfied (imported text).question xs ≡ false)
+  pub never_no_integers : ((xs : List ℕ) → length xs ≡ (question_held (imported text)).n → satisfied (question_held (imported text)) xs ≡ false)
       → (v : List ℕ → ℤ) → text_holds v (forms_of text) ≡ false
   never_no_integers never v = go (text_holds v (forms_of text)) refl
     where
@@ -80,7 +80,7 @@ module _ (text : List ℕ) (accepted : (imported text).answer ≡ ReadAnswer.Acc
       go false e = refl
 
   -- naturals that satisfy the question are a model of the text
-  pub found_holds : (xs : List ℕ) → length xs ≡ (imported text).question.n → satisfied (imported text).question xs ≡ true
+  pub found_holds : (xs : List ℕ) → length xs ≡ (question_held (imported text)).n → satisfied (question_held (imported text)) xs ≡ true
       → GivesNames (valued (declared_names text) xs) (declared_names text) xs × (text_holds (valued (declared_names text) xs) (forms_of text) ≡ true)
   found_holds xs long e =
       let g = valued_gives (declared_names text) xs (long ∙ variables_names text accepted) (distinct_names (forms_of text)) in

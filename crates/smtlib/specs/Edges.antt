@@ -1,19 +1,15 @@
 -- Document 02, E2, worked by hand: each rule of the import on either side of its edge. One table, one claim. Places are counted from 0.
-use Rattle.std.specs.Prelude.{ℕ, zero, suc, ◌≡◌, refl, List, [], ◌∷◌, map, replicate, ℤ, pos, negsuc}
+use Rattle.std.specs.Prelude.{ℕ, zero, suc, ◌≡◌, refl, List, [], ◌∷◌, map, ℤ, pos, negsuc, Err, Result, Ok}
 use Prim.Native.String.{String}
-use Rattle.scope.specs.declared.ReadAnswer.{ReadAnswer}
-use Rattle.scope.specs.declared.Held.{Held}
-use Rattle.scope.specs.Refusals.{refusal}
+use Rattle.scope.specs.declared.Refusal.{Refusal}
+use Rattle.scope.specs.declared.Question.{Question}
+use Rattle.scope.specs.Outcomes.{numbered_refusal}
 use Rattle.smtlib.specs.Spelling.{spelling}
 use Rattle.smtlib.specs.Imported.{imported}
 use Rattle.smtlib.specs.Running.{importing}
 
--- an outcome part by part
-pub data TextOutcome : Type 0 where
-  outcome : ReadAnswer → ℕ → List ℕ → List ℤ → List ℤ → TextOutcome
-
-abbrev pub outcome_of : Held → TextOutcome
-outcome_of h = outcome h.answer h.question.n h.question.codes h.question.coefficients h.question.constants
+abbrev pub TextOutcome : Type 0
+TextOutcome = Result Question Refusal
 
 -- zeros up to a length
 abbrev pub with_zeros : {A : Type 0} → ℕ → A → List A → List A
@@ -22,10 +18,15 @@ with_zeros (suc n) z [] = z ∷ with_zeros n z []
 with_zeros (suc n) z (a ∷ l) = a ∷ with_zeros n z l
 
 abbrev pub accepted_as : ℕ → List ℕ → List ℤ → List ℤ → TextOutcome
-accepted_as n codes coefficients constants = outcome ReadAnswer.Accepted n (with_zeros 64 0 codes) (with_zeros 48 (pos 0) coefficients) (with_zeros 8 (pos 0) constants)
+accepted_as n codes coefficients constants = Ok (record {
+  n = n;
+  codes = with_zeros 64 0 codes;
+  coefficients = with_zeros 48 (pos 0) coefficients;
+  constants = with_zeros 8 (pos 0) constants;
+})
 
 abbrev pub refused_by : ℕ → ℕ → TextOutcome
-refused_by number place = outcome (ReadAnswer.Refused (refusal number place)) 0 (replicate 64 0) (replicate 48 (pos 0)) (replicate 8 (pos 0))
+refused_by number place = Err (numbered_refusal number place)
 
 pub record TextLine : Type 0 where
   pub text : List ℕ
@@ -35,7 +36,7 @@ abbrev text_line : String → TextOutcome → TextLine
 text_line text should = record { text = spelling text; should = should }
 
 abbrev pub texts_given : List TextLine → List TextOutcome
-texts_given lines = map (λ (l : TextLine). outcome_of (imported l.text)) lines
+texts_given lines = map (λ (l : TextLine). imported l.text) lines
 
 abbrev pub texts_wanted : List TextLine → List TextOutcome
 texts_wanted lines = map (λ (l : TextLine). l.should) lines

@@ -1,7 +1,7 @@
 -- Words and lists: what each token is, and the tokens put together by their parentheses, each with the place of its first byte.
 use Rattle.std.specs.Prelude.{ℕ, ◌+◌, ◌*◌, ◌-◌, cond, List, [], ◌∷◌, length, take}
 use Prim.Native.Char.{code}
-use Rattle.scope.specs.Whole.{all}
+use Rattle.std.specs.List.{list_all}
 use Rattle.smtlib.specs.Spelling.{is_in, reserved_words}
 use Rattle.smtlib.specs.Lexicon.{is, is_digit, symbol_first, Token, opening, closing, spelt, tokens_of}
 
@@ -23,7 +23,7 @@ numeral_from v (d ∷ ds) = numeral_from (10 * v + (d - code "0")) ds
 unfoldable pub bare_of : List ℕ → Bare
 bare_of [] = other_word
 bare_of (b ∷ bs) =
-    cond (is_digit b) (cond (all is_digit bs) (numeral (numeral_from 0 (b ∷ bs))) other_word)
+    cond (is_digit b) (cond (list_all is_digit bs) (numeral (numeral_from 0 (b ∷ bs))) other_word)
     (cond (is "|" b) (symbol (take (length bs - 1) bs))
     (cond (symbol_first b) (cond (is_in (b ∷ bs) reserved_words) (reserved (b ∷ bs)) (symbol (b ∷ bs)))
     other_word))

@@ -1,14 +1,14 @@
 -- Document 02, E2: the question of a text, its limits node by node, and the import whole.
-use Rattle.std.specs.Prelude.{ℕ, suc, ◌+◌, not, cond, ◌&&◌, ◌||◌, List, [], ◌∷◌, ◌++◌, length, take, get_or, leb, ltb, ℤ, pos}
+use Rattle.std.specs.Prelude.{ℕ, suc, ◌+◌, not, cond, ◌&&◌, ◌||◌, List, [], ◌∷◌, ◌++◌, length, take, get_or, leb, ltb, ℤ, pos, Err, Result}
 use Rattle.std.proofs.Math.Option.{Option, none, some}
+use Rattle.scope.specs.declared.Question.{Question}
+use Rattle.scope.specs.declared.Rule.{Rule}
 use Rattle.scope.specs.declared.Refusal.{Refusal}
-use Rattle.scope.specs.declared.ReadAnswer.{ReadAnswer}
-use Rattle.scope.specs.declared.Held.{Held}
-use Rattle.scope.specs.Whole.{all}
+use Rattle.std.specs.List.{list_all}
 use Rattle.scope.specs.Sizes.{most_atoms, most_nodes, most_depth, coefficient_fits, constant_fits}
-use Rattle.scope.specs.Question.{Node, is_atom, empty_question}
+use Rattle.scope.specs.Question.{Node, is_atom}
 use Rattle.scope.specs.Tree.{Tree, held_as}
-use Rattle.scope.specs.Refusals.{Check, check, refusal, first_refusal, TOO_MANY, COEFFICIENT_BEYOND, CONSTANT_BEYOND, NOT_WELL_FORMED}
+use Rattle.scope.specs.Refusals.{Check, check, refusal, first_refusal, unless_refused}
 use Rattle.smtlib.specs.Lexicon.{is, broken_at}
 use Rattle.smtlib.specs.Forms.{forms_of}
 use Rattle.smtlib.specs.Formulas.{Formula, Clause, outside_clause, joined_at}
@@ -41,9 +41,9 @@ placed_from depth (Formula.or at f g) = connective at depth Node.or ∷ (placed_
 unfoldable pub placed_checks : ℕ → ℕ → List PlacedNode → List Check
 placed_checks nodes atoms [] = []
 placed_checks nodes atoms (x ∷ xs) =
-    check TOO_MANY x.place (ltb nodes most_nodes && ((not (is_atom x.node) || ltb atoms most_atoms) && leb x.depth most_depth)) ∷
-    check COEFFICIENT_BEYOND x.place (all coefficient_fits x.coefficients) ∷
-    check CONSTANT_BEYOND x.place (constant_fits x.constant) ∷
+    check Rule.TooMany x.place (ltb nodes most_nodes && ((not (is_atom x.node) || ltb atoms most_atoms) && leb x.depth most_depth)) ∷
+    check Rule.CoefficientBeyond x.place (list_all coefficient_fits x.coefficients) ∷
+    check Rule.ConstantBeyond x.place (constant_fits x.constant) ∷
     placed_checks (suc nodes) (atoms + cond (is_atom x.node) 1 0) xs
 
 -- ---- the question of n names
@@ -56,25 +56,18 @@ tree_of n (Formula.or at f g) = Tree.or (tree_of n f) (tree_of n g)
 
 -- ---- the import: 14, then 15 and 4, then 5, 12 and 13
 
-abbrev pub refusing : Refusal → Held
-refusing r = record { answer = ReadAnswer.Refused r; question = empty_question }
+unfoldable pub laid_out : ℕ → Formula → Result Question Refusal
+laid_out n f = unless_refused (first_refusal (placed_checks 0 0 (placed_from 1 f))) (held_as n (tree_of n f))
 
-abbrev pub accepted_if : Option Refusal → ℕ → Formula → Held
-accepted_if none n f = record { answer = ReadAnswer.Accepted; question = held_as n (tree_of n f) }
-accepted_if (some r) n f = refusing r
-
-unfoldable pub laid_out : ℕ → Formula → Held
-laid_out n f = accepted_if (first_refusal (placed_checks 0 0 (placed_from 1 f))) n f
-
-abbrev pub laid_unless : Option Refusal → Script → Held
+abbrev pub laid_unless : Option Refusal → Script → Result Question Refusal
 laid_unless none s = laid_out (length s.declarations) (conjoined s.asserted)
-laid_unless (some r) s = refusing r
+laid_unless (some r) s = Err r
 
-abbrev pub imported_if : Option ℕ → List ℕ → Held
+abbrev pub imported_if : Option ℕ → List ℕ → Result Question Refusal
 imported_if none text = let s = script_of (forms_of text) in laid_unless (fault_of (length text) s) s
-imported_if (some at) text = refusing (refusal NOT_WELL_FORMED at)
+imported_if (some at) text = Err (refusal Rule.NotWellFormed at)
 
-unfoldable pub imported : List ℕ → Held
+unfoldable pub imported : List ℕ → Result Question Refusal
 imported text = imported_if (broken_at text) text
 
 -- ---- the names of an accepted text, by the places of their first byte and behind their last, as they are spelt: without bars

@@ -5,8 +5,9 @@ use Rattle.std.proofs.Common.{sym, ap, ◌∙◌, ⊎_elim, true≢false, arith,
 use Rattle.std.proofs.Math.Logic.{inl, inr}
 use Rattle.std.proofs.Math.Bool.{or-true}
 use Rattle.std.proofs.Math.Option.{Option, none, some}
+use Rattle.scope.specs.declared.Rule.{Rule}
 use Rattle.scope.specs.declared.Refusal.{Refusal}
-use Rattle.scope.specs.Refusals.{refusal, BEYOND_LIMIT, OUTSIDE_SUBSET}
+use Rattle.scope.specs.Refusals.{refusal}
 use Rattle.theory.specs.Numbers.Joined.{Each}
 use Rattle.smtlib.specs.Lexicon.{among}
 use Rattle.smtlib.specs.Script.{Script, lower, lowest_of, refused_at, all_outside, all_beyond, fault_of}
@@ -76,8 +77,8 @@ pub record LowestFault (outside beyond : List ℕ) (r : Refusal) : Type 0 where
   pub below_outside : BelowAll r.place outside
   pub below_beyond : BelowAll r.place beyond
   pub which :
-      ((r.number ≡ OUTSIDE_SUBSET) × (among outside r.place ≡ true))
-      ⊎ ((r.number ≡ BEYOND_LIMIT) × (among outside r.place ≡ false) × (among beyond r.place ≡ true))
+      ((r.rule ≡ Rule.OutsideSubset) × (among outside r.place ≡ true))
+      ⊎ ((r.rule ≡ Rule.BeyondLimit) × (among outside r.place ≡ false) × (among beyond r.place ≡ true))
 
 module _ (outside beyond : List ℕ) where
   not_there : (a b : ℕ) → b < a → BelowAll a outside → among outside b ≡ false
@@ -92,7 +93,7 @@ module _ (outside beyond : List ℕ) where
   FaultIs (some r) = LowestFault outside beyond r
 
   lower_fault : (a b : ℕ) (t : Bool) → leb a b ≡ t → Lowest outside a → Lowest beyond b
-      → LowestFault outside beyond (cond t (refusal OUTSIDE_SUBSET a) (refusal BEYOND_LIMIT b))
+      → LowestFault outside beyond (cond t (refusal Rule.OutsideSubset a) (refusal Rule.BeyondLimit b))
   lower_fault a b true e h k = record { below_outside = h.least; below_beyond = below_less a b beyond (leb-true a b e) k.least; which = inl (refl, h.there) }
   lower_fault a b false e h k =
       let f : b < a = leb-false a b e in
@@ -112,7 +113,7 @@ module _ (outside beyond : List ℕ) where
       g.which
 
   pub fault_once : (r t : Refusal) → LowestFault outside beyond r → LowestFault outside beyond t → r ≡ t
-  fault_once r t f g = λ i. refusal (number i) (place i)
+  fault_once r t f g = λ i. refusal (rule i) (place i)
     where
       place : r.place ≡ t.place
       place = omega (arith, place_least r t f g, place_least t r g f)
@@ -120,8 +121,8 @@ module _ (outside beyond : List ℕ) where
       clash : among outside r.place ≡ true → among outside t.place ≡ false → ⊥
       clash p q = true≢false (sym p ∙ ap (among outside) place ∙ q)
 
-      number : r.number ≡ t.number
-      number = ⊎_elim
+      rule : r.rule ≡ t.rule
+      rule = ⊎_elim
           (λ h. ⊎_elim (λ k. h.0 ∙ sym k.0) (λ k. absurd (clash h.1 k.1)) g.which)
           (λ h. ⊎_elim (λ k. absurd (true≢false (sym k.1 ∙ ap (among outside) (sym place) ∙ h.1))) (λ k. h.0 ∙ sym k.0) g.which)
           f.which

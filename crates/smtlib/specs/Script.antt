@@ -1,9 +1,10 @@
 -- Document 02, E2: the commands of a text in their order: what is declared and asserted, and the place of every 15 and every 4.
 use Rattle.std.specs.Prelude.{ℕ, Bool, true, false, not, cond, ◌&&◌, List, [], ◌∷◌, ◌++◌, map, length, leb, ltb, eqb}
 use Rattle.std.proofs.Math.Option.{Option, none, some}
+use Rattle.scope.specs.declared.Rule.{Rule}
 use Rattle.scope.specs.declared.Refusal.{Refusal}
 use Rattle.scope.specs.Sizes.{most_variables}
-use Rattle.scope.specs.Refusals.{refusal, BEYOND_LIMIT, OUTSIDE_SUBSET}
+use Rattle.scope.specs.Refusals.{refusal}
 use Rattle.smtlib.specs.Spelling.{same, is_in, spelling, theory_words}
 use Rattle.smtlib.specs.Forms.{Bare, numeral, symbol, reserved, other_word, Forms, nothing, word, list}
 use Rattle.smtlib.specs.Formulas.{Clause, clauses_of}
@@ -254,9 +255,9 @@ lowest_of (a ∷ l) = lower a (lowest_of l)
 
 abbrev pub refused_at : Option ℕ → Option ℕ → Option Refusal
 refused_at none none = none
-refused_at (some a) none = some (refusal OUTSIDE_SUBSET a)
-refused_at none (some b) = some (refusal BEYOND_LIMIT b)
-refused_at (some a) (some b) = some (cond (leb a b) (refusal OUTSIDE_SUBSET a) (refusal BEYOND_LIMIT b))
+refused_at (some a) none = some (refusal Rule.OutsideSubset a)
+refused_at none (some b) = some (refusal Rule.BeyondLimit b)
+refused_at (some a) (some b) = some (cond (leb a b) (refusal Rule.OutsideSubset a) (refusal Rule.BeyondLimit b))
 
 unfoldable pub fault_of : ℕ → Script → Option Refusal
 fault_of end s = refused_at (lowest_of (all_outside end s)) (lowest_of (all_beyond s))

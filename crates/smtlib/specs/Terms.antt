@@ -2,7 +2,7 @@
 -- the way, each of them a 15.
 use Rattle.std.specs.Prelude.{ℕ, suc, Bool, true, false, cond, List, [], ◌∷◌, ◌++◌, map, get_or, set, replicate, leb, ℤ, pos, nat_abs, neg_ℤ, ◌+ℤ◌, ◌*ℤ◌}
 use Rattle.std.proofs.Math.Option.{Option, none, some}
-use Rattle.scope.specs.Whole.{all}
+use Rattle.std.specs.List.{list_all}
 use Rattle.scope.specs.Sizes.{most_variables}
 use Rattle.smtlib.specs.Spelling.{same, spelling}
 use Rattle.smtlib.specs.Forms.{Bare, numeral, symbol, reserved, other_word, Forms, nothing, word, list}
@@ -81,7 +81,7 @@ abbrev pub less : List ℤ → List ℤ → List ℤ
 less k l = sums k (opposite l)
 
 unfoldable pub collected_fit : List ℤ → Bool
-collected_fit l = all (λ z. leb (nat_abs z) most_collected) l
+collected_fit l = list_all (λ z. leb (nat_abs z) most_collected) l
 
 -- ---- a term as it is read
 

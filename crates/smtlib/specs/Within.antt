@@ -5,7 +5,7 @@ use Rattle.std.proofs.Common.{sym, subst, arith, add-one, leb→le, le→leb, lt
 use Prim.Native.Nat.{ℕ, zero, suc, ◌+◌, ◌≤◌, ◌<◌}
 use Rattle.std.proofs.Math.Dec.{T}
 use Rattle.std.proofs.Math.Seq.{length-take-le}
-use Rattle.scope.specs.Whole.{all}
+use Rattle.std.specs.List.{list_all}
 use Rattle.scope.specs.Sizes.{most_variables, most_atoms, most_nodes, most_depth, coefficient_fits, constant_fits, numbers_fit}
 use Rattle.scope.specs.Question.{Node, is_atom, Atom}
 use Rattle.scope.specs.Tree.{nodes_in, atoms_in, within_limits}
@@ -20,7 +20,7 @@ use Rattle.smtlib.specs.Rows.{RowsOfSix}
 
 record NodeFits (x : PlacedNode) : Type 0 where
   depth : x.depth ≤ most_depth
-  coefficients : T (all coefficient_fits x.coefficients)
+  coefficients : T (list_all coefficient_fits x.coefficients)
   constant : T (constant_fits x.constant)
 
 abbrev atom_count_in : List PlacedNode → ℕ
@@ -58,11 +58,10 @@ each_parts : {A : Type 0} (P : A → Type 0) (k l : List A) → Each P (k ++ l) 
 each_parts P [] l h = (tt, h)
 each_parts P (a ∷ k) l h = let r = each_parts P k l h.1 in ((h.0, r.0), r.1)
 
-all_take : (f : ℤ → Bool) (n : ℕ) (l : List ℤ) → T (all f l) → T (all f (take n l))
-unfolding all
+all_take : (f : ℤ → Bool) (n : ℕ) (l : List ℤ) → T (list_all f l) → T (list_all f (take n l))
 all_take f zero l h = tt
 all_take f (suc n) [] h = tt
-all_take f (suc n) (a ∷ l) h = and_both (f a) (all f (take n l)) (and_first (f a) (all f l) h) (all_take f n l (and_second (f a) (all f l) h))
+all_take f (suc n) (a ∷ l) h = and_both (f a) (list_all f (take n l)) (and_first (f a) (list_all f l) h) (all_take f n l (and_second (f a) (list_all f l) h))
 
 atoms_append : (k l : List PlacedNode) → atom_count_in (k ++ l) ≡ atom_count_in k + atom_count_in l
 atoms_append [] l = omega arith
@@ -101,8 +100,8 @@ module _ (n : ℕ) where
   placed_fits : (depth : ℕ) (f : Formula) → n ≤ most_variables → RowsOfSix f → Each NodeFits (placed_from depth f) → Fits n depth (tree_of n f)
   unfolding placed_from tree_of numbers_fit
   placed_fits depth (Formula.atom at κ row k) few six h =
-      let small : T (all coefficient_fits (take n row)) = all_take coefficient_fits n row h.0.coefficients in
-      (h.0.depth, length-take-le n row (omega (arith, six)), and_both (all coefficient_fits (take n row)) (constant_fits k) small h.0.constant)
+      let small : T (list_all coefficient_fits (take n row)) = all_take coefficient_fits n row h.0.coefficients in
+      (h.0.depth, length-take-le n row (omega (arith, six)), and_both (list_all coefficient_fits (take n row)) (constant_fits k) small h.0.constant)
   placed_fits depth (Formula.not at f) few six h = fits_next depth f (placed_fits (suc depth) f few six h.1)
   placed_fits depth (Formula.and at f g) few six h =
       let r = each_parts NodeFits (placed_from (suc depth) f) (placed_from (suc depth) g) h.1 in

@@ -67,10 +67,8 @@ pub fn step_row(
 {
     let base = Question::ATOMS * letter;
     let mut target = [0i32; Question::ATOMS];
-    let mut i = 0;
-    while i < Question::ATOMS {
+    for i in 0..Question::ATOMS {
         target[i] = step_cell(kinds[i], row[i], sums[base + i]);
-        i += 1;
     }
     target
 }
@@ -90,10 +88,8 @@ pub fn worths_of(
     ensures { result ≡ worth_cells kinds row }
 {
     let mut worths = [false; Question::ATOMS];
-    let mut i = 0;
-    while i < Question::ATOMS {
+    for i in 0..Question::ATOMS {
         worths[i] = worth_cell(kinds[i], row[i]);
-        i += 1;
     }
     worths
 }
@@ -111,14 +107,11 @@ pub fn kinds_of(codes: &[u8; Question::NODES]) -> Kinds
 {
     let mut kinds = [0u8; Question::ATOMS];
     let mut m = 0;
-    let mut i = 0;
-    while i < Question::NODES {
-        let code = codes[i];
+    for &code in codes {
         if is_atom(code) {
             kinds[m] = code;
             m += 1;
         }
-        i += 1;
     }
     Kinds { kinds, m }
 }
@@ -133,10 +126,8 @@ fn digit_adds(
     ensures { result ≡ digit_adds m coefficients.now j }
 {
     let mut adds = [0i32; Question::ATOMS];
-    let mut i = 0;
-    while i < m {
+    for i in 0..m {
         adds[i] = coefficients[Question::VARIABLES * i + j];
-        i += 1;
     }
     adds
 }
@@ -146,10 +137,8 @@ fn digit_row(sums: &mut [i32; SUMS], from: usize, to: usize, adds: [i32; Questio
     requires { Adding adds sums.old from to most_atoms }
     ensures { SumsAdded adds sums.old sums.new from to most_atoms }
 {
-    let mut i = 0;
-    while i < Question::ATOMS {
+    for i in 0..Question::ATOMS {
         sums[to + i] = sums[from + i] + adds[i];
-        i += 1;
     }
 }
 
@@ -158,15 +147,13 @@ fn digit_sums(sums: &mut [i32; SUMS], count: usize, adds: [i32; Question::ATOMS]
     requires { Adding adds sums.old 0 (most_atoms * count) (most_atoms * count) }
     ensures { SumsAdded adds sums.old sums.new 0 (most_atoms * count) (most_atoms * count) }
 {
-    let mut letter = 0;
-    while letter < count {
+    for letter in 0..count {
         digit_row(
             sums,
             Question::ATOMS * letter,
             Question::ATOMS * (count + letter),
             adds,
         );
-        letter += 1;
     }
 }
 
@@ -176,10 +163,8 @@ pub fn letter_sums(n: usize, m: usize, coefficients: &[i32; Question::COEFFICIEN
     ensures { Sums n m coefficients.now result }
 {
     let mut sums = [0i32; SUMS];
-    let mut j = 0;
-    while j < n {
+    for j in 0..n {
         digit_sums(&mut sums, letters(j), digit_adds(m, coefficients, j));
-        j += 1;
     }
     sums
 }

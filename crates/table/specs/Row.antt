@@ -7,11 +7,11 @@ use Rattle.scope.specs.Sizes.{most_atoms}
 use Rattle.formula.specs.Truths.{truth_at}
 use Rattle.step.specs.Cells.{step_cells, worth_cells}
 use Rattle.index.specs.Rows.{row_at}
-use Rattle.index.specs.Index.{Key, Finds}
+use Rattle.index.specs.Index.{Key}
 use Rattle.plan.specs.declared.Plan.{Plan}
 use Rattle.plan.specs.Machine.{machine, machine_runs}
 use Rattle.table.specs.Front.{marked_row, marked_none, marked_next, marked_row_lem, front_set}
-use Rattle.table.specs.Tabling.{Tabling, mark_is, found_is}
+use Rattle.table.specs.Tabling.{KeyIn, Tabling, mark_is, found_is}
 
 -- row s of the table
 abbrev pub table_row_of : Plan → List ℤ → List ℤ → ℕ → ℕ → List ℕ
@@ -45,14 +45,14 @@ module _ {plan : Plan} {sums keys : List ℤ} {count : ℕ} (t : Tabling plan su
     }
 
     pub next_written : {a : ℕ} {part : List ℕ} → a < plan.letters → Begun plan sums keys count s a part
-        → (v : ℕ) → Finds keys plan.width (step_cells plan.kinds most_atoms sums a from) count v → Begun plan sums keys count s (a + 1) (set part (1 + a) v)
+        → (v : ℕ) → KeyIn keys plan.width (step_cells plan.kinds most_atoms sums a from) count v → Begun plan sums keys count s (a + 1) (set part (1 + a) v)
     next_written {a} {part} h g v f = record {
       low = omega arith;
       size = rw length-set g.size;
       cells =
           let e : 1 + (a + 1) ≡ 1 + a + 1 = omega arith in
           let i : 1 + a < length part = omega (arith, g.size) in
-          rw (e, marked_next M (numbered M count) (row M (numbered M count) s).state a, ← found_is t s below loaded key a v h f)
+          rw (e, marked_next M (numbered M count) (row M (numbered M count) s).state a, ← found_is t s below loaded key a v f)
           (front_set part _ (1 + a) v i g.cells);
     }
 

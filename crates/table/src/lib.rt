@@ -4,9 +4,9 @@
 ghost use Rattle.std.specs.Prelude.{◌≡◌, cond, ◌+◌, ◌*◌, ◌≤◌, ◌<◌, length};
 ghost use Rattle.scope.specs.Sizes.{most_atoms};
 ghost use Rattle.step.specs.Cells.{step_cells};
-ghost use Rattle.index.specs.Index.{Indexed, Finds};
+ghost use Rattle.index.specs.Index.{Indexed};
 ghost use Rattle.plan.specs.Loaded.{Steps};
-ghost use Rattle.table.specs.Tabling.{Tabling};
+ghost use Rattle.table.specs.Tabling.{HasKey, KeyIn, Tabling};
 ghost use Rattle.table.specs.Row.{table_row_of};
 ghost use Rattle.table.specs.Table.{table_after};
 
@@ -27,11 +27,12 @@ fn next_state(
 ) -> u16
     requires indexed { Indexed keys.now plan.width links.now count }
     requires steps { Steps plan sums.now letter row }
-    ensures { Finds keys.now plan.width (step_cells plan.kinds most_atoms sums.now letter row) count result }
+    requires there { HasKey keys.now plan.width (step_cells plan.kinds most_atoms sums.now letter row) count }
+    ensures { KeyIn keys.now plan.width (step_cells plan.kinds most_atoms sums.now letter row) count result }
 {
     let kinds = plan.kinds;
     let key = step_row(kinds, sums, letter, row);
-    find(keys, plan.width, &key, links, count) as u16
+    find(keys, plan.width, &key, links, count).unwrap() as u16
 }
 
 // The first cell of a row.
@@ -59,10 +60,8 @@ fn write_row(
 {
     let from = load_row(keys, plan.width, row);
     part[0] = mark(plan.accepts(from));
-    let mut letter = 0;
-    while letter < plan.letters {
+    for letter in 0..plan.letters {
         part[1 + letter] = next_state(plan, sums, letter, keys, links, count, from);
-        letter += 1;
     }
 }
 
@@ -81,11 +80,9 @@ pub fn write_rows(
     ensures { table.new ≡ table_after plan sums.now keys.now count table.old }
 {
     let width = 1 + plan.letters;
-    let mut row = 0;
-    while row < count {
+    for row in 0..count {
         let at = row * width;
         let end = at + width;
         write_row(&mut table[at..end], plan, sums, keys, links, count, row);
-        row += 1;
     }
 }

@@ -8,7 +8,6 @@ use lib.Dec.{T, eqb}
 use lib.ListN.{length, length-map}
 use lib.Seq.{ext_get_or}
 use lib.IntN.{ℤ, pos, neg_ℤ}
-use Rattle.scope.specs.Whole.{all}
 use Rattle.smtlib.specs.Terms.{Relation, equal, at_most, below, at_least, above, Head, plus, minus, times, compare, negation, conjunction, disjunction, other_head, no_numbers, opposite, less, collected_fit, Term, faults_in, total}
 use Rattle.smtlib.specs.Formulas.{sides}
 use Rattle.smtlib.specs.Laws.{sums_nought}
@@ -31,7 +30,7 @@ exactly e = record { same_fit = ap collected_fit e; same_numbers = λ t. e }
 -- ---- a sum
 
 fit_alike : (k l : List ℤ) → length k ≡ length l → ((i : ℕ) → i < length k → small_number (lane k i) ≡ small_number (lane l i)) → collected_fit k ≡ collected_fit l
-unfolding collected_fit all
+unfolding collected_fit
 fit_alike [] [] e same = refl
 fit_alike [] (b ∷ l) e same = absurd (omega arith)
 fit_alike (a ∷ k) [] e same = absurd (omega arith)

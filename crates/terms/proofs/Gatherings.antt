@@ -8,13 +8,12 @@ use mathlib.Core.Option.{Option, none}
 use mathlib.Core.List.{List, [], ◌∷◌, ◌++◌, append-nil}
 use lib.ListN.{length, replicate, length-append}
 use lib.IntN.{ℤ, pos, nat_abs, ◌+ℤ◌}
-use Rattle.scope.specs.Whole.{all}
 use Rattle.smtlib.specs.Terms.{most_collected, no_numbers, collected_fit, Term, faults_in, total}
 use Rattle.smtlib.specs.Script.{lowest_of}
 use Rattle.smtlib.specs.Laws.{lower_of, lowest_append, sums_length, total_append, faults_in_append}
 use Rattle.theory.specs.Numbers.Magnitude.{abs_add}
 use Rattle.lexicon.specs.Spots.{spot_of}
-use Rattle.terms.specs.declared.TermPart.{TermPart}
+use Rattle.terms.specs.declared.Collected.{Collected}
 use Rattle.terms.specs.declared.gather.Piece.{Piece}
 use Rattle.terms.specs.declared.gather.Gathering.{Gathering}
 use Rattle.terms.specs.Seven.{number_count, lane_value, lane, SumAdded}
@@ -40,7 +39,7 @@ lane_none (suc n) zero = refl
 lane_none (suc n) (suc i) = lane_none n i
 
 none_small : NumbersFit false no_numbers
-unfolding collected_fit all
+unfolding collected_fit
 none_small = record { within_limit = tt; numeral_small = λ e. omega arith }
 
 pub none_fits : GatheringFits no_gathering
@@ -63,11 +62,11 @@ none_gathers = record {
 
 -- ---- one more
 
-abbrev pub piece_of : TermPart → Piece
+abbrev pub piece_of : Collected → Piece
 piece_of part = record { numeric = part.numeric; numbers = part.numbers }
 
 -- what the code does with a part
-pub record OneMore (g : Gathering) (part : TermPart) (r : Gathering) : Type 0 where
+pub record OneMore (g : Gathering) (part : Collected) (r : Gathering) : Type 0 where
   pub sum_added : SumAdded g.sum.low g.sum.high part.numbers r.sum.low r.sum.high
   pub lower_fault : (o p : Option ℕ) → g.fault ≡ spot_of o → part.fault ≡ spot_of p → r.fault ≡ spot_of (lower_of o p)
   pub count_few : g.count < 3 → r.count ≡ suc g.count
@@ -84,7 +83,7 @@ faults_more : (ts : List Term) (t : Term) → faults_in (ts ++ (t ∷ [])) ≡ f
 unfolding faults_in
 faults_more ts t = faults_in_append ts (t ∷ []) ∙ ap (λ (l : List ℕ). faults_in ts ++ l) (append-nil t.faults)
 
-module _ {g r : Gathering} {part : TermPart} (m : OneMore g part r) (ts : List Term) (t : Term) (had : Gathers ts g) (says : TermSays t part) (seven : length part.numbers ≡ number_count) where
+module _ {g r : Gathering} {part : Collected} (m : OneMore g part r) (ts : List Term) (t : Term) (had : Gathers ts g) (says : TermSays t part) (seven : length part.numbers ≡ number_count) where
   kept_more : PartKept t (piece_of part)
   kept_more = record { is_numeral = says.is_numeral; numbers_are = says.numbers_are }
 
@@ -113,7 +112,7 @@ module _ {g r : Gathering} {part : TermPart} (m : OneMore g part r) (ts : List T
       rw ((m.sum_added.lanes i h).value, length-append)
       (omega (arith, abs_add (lane_value (lane g.sum.low i) (lane g.sum.high i)) (lane part.numbers i), had.sum_small i h, fit_each part.numbers i says.within_limit))
 
-module _ {g r : Gathering} {part : TermPart} (m : OneMore g part r) (t : Term) (kept : PartKept t (piece_of part)) where
+module _ {g r : Gathering} {part : Collected} (m : OneMore g part r) (t : Term) (kept : PartKept t (piece_of part)) where
   count_more : (ts : List Term) → g.count ≡ part_count ts → r.count ≡ part_count (ts ++ (t ∷ []))
   unfolding part_count
   count_more [] e = m.count_few (omega arith) ∙ ap suc e
@@ -134,7 +133,7 @@ module _ {g r : Gathering} {part : TermPart} (m : OneMore g part r) (t : Term) (
   second_more (u ∷ v ∷ []) = tt
   second_more (u ∷ v ∷ w ∷ ts) = tt
 
-pub more_gathers : {g r : Gathering} {part : TermPart} → OneMore g part r → length part.numbers ≡ number_count
+pub more_gathers : {g r : Gathering} {part : Collected} → OneMore g part r → length part.numbers ≡ number_count
     → (ts : List Term) (t : Term) → Gathers ts g → TermSays t part → Gathers (ts ++ (t ∷ [])) r
 more_gathers m seven ts t had says =
     let kept = kept_more m ts t had says seven in
@@ -147,7 +146,7 @@ more_gathers m seven ts t had says =
       second_kept = second_more m t kept ts;
     }
 
-pub more_fits : {g r : Gathering} {part : TermPart} → OneMore g part r → GatheringFits g → NumbersFit part.numeric part.numbers → GatheringFits r
+pub more_fits : {g r : Gathering} {part : Collected} → OneMore g part r → GatheringFits g → NumbersFit part.numeric part.numbers → GatheringFits r
 more_fits {g} {r} {part} m had fits = record {
   lows = record { lanes = λ i h. (m.sum_added.lanes i h).low_small };
   first_fits = go (ℕ_discrete g.count 0);

@@ -11,13 +11,13 @@ use Rattle.forms.specs.declared.Form.{Form}
 use Rattle.forms.specs.Places.{forms_at}
 use Rattle.forms.specs.Read.{END, CLOSE, OPEN, NUMERAL, SYMBOL, RESERVED, OTHER, FormRead}
 use Rattle.terms.specs.declared.ListHead.{ListHead}
-use Rattle.terms.specs.Heads.{head_code, head_in, HeadRead}
+use Rattle.terms.specs.Heads.{word_code, head_code, head_in, HeadRead}
 
 module _ {text : List ℕ} {at depth : ℕ} {f : Form} (read : FormRead text at depth f) where
   word_head : (h : NUMERAL ≤ f.kind) (w : Bare) → bare_of (stretch text f.place f.next) ≡ w → head_in (forms_at text at) ≡ head_of w
   word_head h w e = ap head_in (read.word_here h).forms ∙ ap head_of e
 
-  pub symbol_head : {r : ListHead} → f.kind ≡ SYMBOL → r.next ≡ f.next → r.code ≡ head_code (head_named (stretch text f.from f.to)) → HeadRead text at depth r
+  pub symbol_head : {r : ListHead} → f.kind ≡ SYMBOL → r.next ≡ f.next → word_code r.word ≡ head_code (head_named (stretch text f.from f.to)) → HeadRead text at depth r
   symbol_head {r} k n c =
       let h : NUMERAL ≤ f.kind = omega arith in
       let here = read.word_here h in
@@ -46,5 +46,5 @@ module _ {text : List ℕ} {at depth : ℕ} {f : Form} (read : FormRead text at 
           let k : f.kind ≡ OTHER = omega arith in
           word_head h _ ((read.word_says h).other_says k)
 
-  pub no_head : {r : ListHead} → f.kind ≤ OTHER → (f.kind ≡ SYMBOL → ⊥) → r.code ≡ 11 → HeadRead text at depth r
+  pub no_head : {r : ListHead} → f.kind ≤ OTHER → (f.kind ≡ SYMBOL → ⊥) → word_code r.word ≡ 11 → HeadRead text at depth r
   no_head most n c = record { code_is = c ∙ sym (ap head_code (other_head_lem most n)); parts = λ b. absurd (omega arith) }

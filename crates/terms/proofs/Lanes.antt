@@ -4,9 +4,9 @@ use native.Mathlib.Nat.{mul-le-mul}
 use native.Mathlib.Omega.{arith}
 use mathlib.Core.Path.{◌≡◌, refl, sym, ap}
 use mathlib.Core.Bool.{true, false}
-use borrow.Author.Tests.{leb-true, leb-false, le-leb, lt-leb}
+use borrow.Author.Tests.{lt-leb}
 use lib.IntN.{ℤ, pos, negsuc, neg_ℤ, nat_abs, ◌+ℤ◌, ◌-ℤ◌, ◌*ℤ◌}
-use lib.Signed.{le_z, lt_z, ◌≤ℤ◌, ◌<ℤ◌, lt_z_yes, lt_z_no}
+use lib.Signed.{lt_z, ◌≤ℤ◌, ◌<ℤ◌, lt_z_yes, lt_z_no}
 use mir.Syntax.{w64}
 use mir.Val.{SFits}
 use Rattle.smtlib.specs.Terms.{most_numeral, most_collected}
@@ -81,16 +81,6 @@ module _ (low high part : ℤ) (h : LaneFits low high × (nat_abs part ≤ most_
   unfolding lane_value
   carried_none t u =
       record { value = same_lane low high part; low_small = abs_le (low +ℤ part) most_low (lt_z_no (rw u tt)) (lt_z_no (rw t tt)) }
-
--- ---- the limit
-
-pub small_low : (z : ℤ) → le_z (neg_ℤ (pos most_collected)) z ≡ false → false ≡ small_number z
-small_low (pos n) t = absurd (let e : ◌≡◌ {A = ℕ} 0 1 = cc in omega arith)
-small_low (negsuc n) t = sym (lt-leb (suc n) most_collected (omega (arith, leb-false n 1099511627775 t)))
-
-pub small_high : (z : ℤ) → le_z (neg_ℤ (pos most_collected)) z ≡ true → le_z z (pos most_collected) ≡ small_number z
-small_high (pos n) t = refl
-small_high (negsuc n) t = sym (le-leb (suc n) most_collected (omega (arith, leb-true n 1099511627775 t)))
 
 -- ---- a number as it is, or one beyond the limit
 

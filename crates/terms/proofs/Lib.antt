@@ -2,6 +2,8 @@
 mod Lanes
 mod Sevens
 mod HeadWords
+mod HeadCodes
+pub mod Opened
 mod HeadForms
 mod NameIndex
 mod WordTerms

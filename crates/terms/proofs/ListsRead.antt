@@ -8,7 +8,7 @@ use Rattle.smtlib.specs.Forms.{nothing}
 use Rattle.smtlib.specs.Terms.{Term, terms_of}
 use Rattle.forms.specs.Places.{forms_at, around, Unbroken}
 use Rattle.forms.specs.Read.{ListEnd}
-use Rattle.terms.specs.declared.TermPart.{TermPart}
+use Rattle.terms.specs.declared.Collected.{Collected}
 use Rattle.terms.specs.declared.gather.Gathering.{Gathering}
 use Rattle.terms.specs.Seven.{SumFits}
 use Rattle.terms.specs.Gathering.{GatheringFits, Gathers}
@@ -38,13 +38,13 @@ sofar_none names h u f g = record {
 }
 
 module _ {text : List ℕ} {at depth : ℕ} {names : List (List ℕ)} {g : Gathering} {next : ℕ} (s : Sofar text at depth names g next) where
-  pub sofar_next : {part : TermPart} {r : Gathering} → TermRead text next depth names part → next < part.next → part.next ≤ length text → GatheringFits r
-      → ((ts : List Term) (t : Term) → Gathers ts g → TermSays t part → Gathers (ts ++ (t ∷ [])) r) → Sofar text at depth names r part.next
-  sofar_next {part} {r} read onward inside fits more = record {
+  pub sofar_next : {part : Collected} {behind : ℕ} {r : Gathering} → TermRead text next depth names part behind → next < behind → behind ≤ length text → GatheringFits r
+      → ((ts : List Term) (t : Term) → Gathers ts g → TermSays t part → Gathers (ts ++ (t ∷ [])) r) → Sofar text at depth names r behind
+  sofar_next {behind = behind} read onward inside fits more = record {
     sofar = s.sofar ++ (read.term ∷ []);
     terms =
         s.terms ∙ ap (λ (l : List Term). s.sofar ++ l) read.terms
-        ∙ sym (append_assoc s.sofar (read.term ∷ []) (terms_of names (forms_at text part.next)));
+        ∙ sym (append_assoc s.sofar (read.term ∷ []) (terms_of names (forms_at text behind)));
     gathers = more s.sofar read.term s.gathers read.says;
     fits = fits;
     levels = read.levels ∙ s.levels;

@@ -8,7 +8,7 @@ use mathlib.Core.List.{List, [], ◌∷◌}
 use lib.Dec.{T}
 use lib.ListN.{length}
 use lib.IntN.{ℤ}
-use Rattle.scope.specs.Whole.{all}
+use Rattle.std.specs.Prelude.{is_some}
 use Rattle.smtlib.specs.Terms.{no_numbers, collected_fit, Head, Term, faults_in, collecting, collected}
 use Rattle.smtlib.specs.Script.{lower, lowest_of}
 use Rattle.lexicon.specs.Spots.{spot_of}
@@ -31,16 +31,16 @@ numeral_says g (t ∷ u ∷ v ∷ ts) f s = tt
 -- ---- collected
 
 -- a list has a lowest place exactly if it has any
-some_lowest : (l : List ℕ) → (spot_of (lowest_of l)).there ≡ true → (l ≡ [] → ⊥)
+some_lowest : (l : List ℕ) → is_some (spot_of (lowest_of l)) ≡ true → (l ≡ [] → ⊥)
 unfolding lowest_of
 some_lowest l e f = never (sym (rw f at e))
 
-none_lowest : (l : List ℕ) → (spot_of (lowest_of l)).there ≡ false → l ≡ []
+none_lowest : (l : List ℕ) → is_some (spot_of (lowest_of l)) ≡ false → l ≡ []
 unfolding lowest_of
 none_lowest [] e = refl
 none_lowest (a ∷ l) e = go (lowest_of l) e
   where
-    go : (o : Option ℕ) → (spot_of (lower a o)).there ≡ false → a ∷ l ≡ []
+    go : (o : Option ℕ) → is_some (spot_of (lower a o)) ≡ false → a ∷ l ≡ []
     go none e = never e
     go (some b) e = never e
 
@@ -49,7 +49,7 @@ unfolding collecting
 collecting_some place n [] f = absurd (f refl)
 collecting_some place n (a ∷ l) f = refl
 
-module _ (place next : ℕ) (h : Head) (ts : List Term) {g : Gathering} (few : head_code h ≤ 7) (had : Gathers ts g) where
+module _ (place : ℕ) (h : Head) (ts : List Term) {g : Gathering} (few : head_code h ≤ 7) (had : Gathers ts g) where
   abbrev numeral : Bool
   numeral = g.first.numeric || g.second.numeric
 
@@ -57,8 +57,8 @@ module _ (place next : ℕ) (h : Head) (ts : List Term) {g : Gathering} (few : h
   numeral_is = numeral_says g ts had.first_kept had.second_kept
 
   pub misshapen_says : shapely_at (head_code h) g.count numeral ≡ false
-      → TermSays (gathered h place ts) record { ended = false; numeric = false; numbers = no_numbers; fault = spot_of (some place); next = next }
-  misshapen_says e = rw (gathered_is place h ts numeral few numeral_is, sym had.count_is, e) (outside_says place next).says
+      → TermSays (gathered h place ts) record { numeric = false; numbers = no_numbers; fault = spot_of (some place) }
+  misshapen_says e = rw (gathered_is place h ts numeral few numeral_is, sym had.count_is, e) (outside_says place)
 
   module _ (shapely : shapely_at (head_code h) g.count numeral ≡ true) where
     shapely_here : shapely_at (head_code h) (part_count ts) numeral ≡ true
@@ -67,8 +67,8 @@ module _ (place next : ℕ) (h : Head) (ts : List Term) {g : Gathering} (few : h
     together : gathered h place ts ≡ collected place (numbers_of h ts) ts
     together = rw shapely_here at (gathered_is place h ts numeral few numeral_is)
 
-    pub faulty_says : g.fault.there ≡ true → TermSays (gathered h place ts) record { ended = false; numeric = false; numbers = no_numbers; fault = g.fault; next = next }
-    unfolding collected_fit all
+    pub faulty_says : is_some g.fault ≡ true → TermSays (gathered h place ts) record { numeric = false; numbers = no_numbers; fault = g.fault }
+    unfolding collected_fit
     faulty_says e =
         let some_fault = some_lowest (faults_in ts) (rw had.fault_is at e) in
         let faults : collecting place (numbers_of h ts) (faults_in ts) ≡ faults_in ts = collecting_some place (numbers_of h ts) (faults_in ts) some_fault in
@@ -80,14 +80,14 @@ module _ (place next : ℕ) (h : Head) (ts : List Term) {g : Gathering} (few : h
           numeral_small = λ f. omega arith;
         }
 
-    module _ {r : List ℤ} (sound : g.fault.there ≡ false) (seven : length g.first.numbers ≡ number_count) (by : NumbersBy (head_code h) g r) where
+    module _ {r : List ℤ} (sound : is_some g.fault ≡ false) (seven : length g.first.numbers ≡ number_count) (by : NumbersBy (head_code h) g r) where
       faultless : faults_in ts ≡ []
       faultless = none_lowest (faults_in ts) (rw had.fault_is at sound)
 
       collects : Collects (numbers_of h ts) r
       collects = numbers_agree h ts numeral few had faultless seven shapely_here by
 
-      pub sound_says : collected_fit r ≡ true → TermSays (gathered h place ts) record { ended = false; numeric = false; numbers = r; fault = spot_of none; next = next }
+      pub sound_says : collected_fit r ≡ true → TermSays (gathered h place ts) record { numeric = false; numbers = r; fault = spot_of none }
       unfolding collecting lowest_of
       sound_says e =
           let fits : T (collected_fit r) = rw e tt in
@@ -100,8 +100,8 @@ module _ (place next : ℕ) (h : Head) (ts : List Term) {g : Gathering} (few : h
             numeral_small = λ f. never (sym f);
           }
 
-      pub beyond_says : collected_fit r ≡ false → TermSays (gathered h place ts) record { ended = false; numeric = false; numbers = no_numbers; fault = spot_of (some place); next = next }
-      unfolding collecting lowest_of collected_fit all
+      pub beyond_says : collected_fit r ≡ false → TermSays (gathered h place ts) record { numeric = false; numbers = no_numbers; fault = spot_of (some place) }
+      unfolding collecting lowest_of collected_fit
       beyond_says e =
           let whole : collected_fit (numbers_of h ts) ≡ false = sym collects.same_fit ∙ e in
           rw (together, faultless, whole) record {

@@ -10,7 +10,6 @@ use lib.Dec.{T, leb→le}
 use lib.ListN.{length, set, replicate, length-set, length-map, get_or-map}
 use lib.Seq.{ext_get_or, get_or-set_same, get_or-set_other}
 use lib.IntN.{ℤ, pos, neg_ℤ, nat_abs, ◌+ℤ◌, ◌-ℤ◌, ◌*ℤ◌, *ℤ-zero}
-use Rattle.scope.specs.Whole.{all}
 use Rattle.smtlib.specs.Terms.{most_collected, sums, opposite, scaled, less, collected_fit}
 use Rattle.terms.specs.Seven.{number_count, LaneAdded, small_number, lane}
 
@@ -85,7 +84,7 @@ both_hold true b s t = t
 both_hold false b s t = absurd s
 
 pub fit_each : (l : List ℤ) (i : ℕ) → T (collected_fit l) → nat_abs (lane l i) ≤ most_collected
-unfolding collected_fit all
+unfolding collected_fit
 fit_each [] i t = zero-le
 fit_each (a ∷ l) zero t = leb→le (nat_abs a) most_collected (both_true (small_number a) (collected_fit l) t).0
 fit_each (a ∷ l) (suc i) t = fit_each l i (both_true (small_number a) (collected_fit l) t).1

@@ -3,7 +3,7 @@ use Rattle.std.specs.Prelude.{ℕ, ◌*◌, ◌≤◌, ◌<◌, ◌≡◌, Bool,
 use Rattle.smtlib.specs.Terms.{most_numeral, most_collected, no_numbers, less, collected_fit, Term, faults_in, total}
 use Rattle.smtlib.specs.Script.{lowest_of}
 use Rattle.lexicon.specs.Spots.{spot_of}
-use Rattle.terms.specs.declared.TermPart.{TermPart}
+use Rattle.terms.specs.declared.Collected.{Collected}
 use Rattle.terms.specs.declared.gather.Piece.{Piece}
 use Rattle.terms.specs.declared.gather.Gathering.{Gathering}
 use Rattle.terms.specs.Seven.{number_count, lane_value, lane, LowFits, SumFlat}
@@ -15,7 +15,7 @@ pub record NumbersFit (numeric : Bool) (numbers : List ℤ) : Type 0 where
   pub within_limit : T (collected_fit numbers)
   pub numeral_small : numeric ≡ true → nat_abs (lane numbers 0) ≤ most_numeral
 
-abbrev pub PartFits : TermPart → Type 0
+abbrev pub PartFits : Collected → Type 0
 PartFits part = NumbersFit part.numeric part.numbers
 
 abbrev pub PieceFits : Piece → Type 0

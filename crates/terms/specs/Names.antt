@@ -1,6 +1,7 @@
 -- The declared names as the code has them: for each the place of its first byte and the one behind its last, as one list.
-use Rattle.std.specs.Prelude.{ℕ, zero, suc, ◌+◌, ◌*◌, ◌≤◌, ◌<◌, ◌≡◌, List, [], ◌∷◌, length, get_or}
-use Rattle.std.proofs.Math.Option.{Option, none, some}
+use Rattle.std.specs.Prelude.{ℕ, zero, suc, ◌+◌, ◌*◌, ◌≤◌, ◌<◌, ◌≡◌, List, [], ◌∷◌, length, get_or, Option, Some, None}
+use Rattle.std.proofs.Math.Option as Math
+use Rattle.std.proofs.Math.Option.{none, some}
 use Rattle.lexicon.specs.Spots.{stretch}
 
 abbrev pub name_at : List ℕ → List ℕ → ℕ → List ℕ
@@ -19,7 +20,7 @@ pub record NamesStand (text bounds : List ℕ) (count : ℕ) : Type 0 where
   pub at_most_seven : count ≤ 7
   pub spans : (i : ℕ) → i < count → (get_or bounds (2 * i) 0 ≤ get_or bounds (2 * i + 1) 0) × (get_or bounds (2 * i + 1) 0 ≤ length text)
 
--- the number of a name, or their count
-pub record IndexOf (found : Option ℕ) (count r : ℕ) : Type 0 where
-  pub there : r < count → found ≡ some r
-  pub none_there : count ≤ r → found ≡ none
+-- the number of a name, where it is one of so many
+abbrev pub IndexOf : Math.Option ℕ → ℕ → Option ℕ → Type 0
+IndexOf found count (Some r) = (r < count) × (found ≡ some r)
+IndexOf found count None = found ≡ none

@@ -1,14 +1,14 @@
 // The parts of a list, one after the other, and what they are together by the list's head.
-ghost use Rattle.std.specs.Prelude.{◌≡◌, ◌||◌, true, false, List, [], ◌∷◌, ◌++◌, suc, ◌≤◌, ◌<◌};
+ghost use Rattle.std.specs.Prelude.{◌≡◌, ◌||◌, true, List, [], ◌∷◌, ◌++◌, suc, ◌≤◌, ◌<◌};
 ghost use Rattle.smtlib.specs.Terms.{Head, Term, less};
-ghost use Rattle.terms.specs.Heads.{head_code};
+ghost use Rattle.terms.specs.Heads.{word_code, head_code};
 ghost use Rattle.terms.specs.Gathered.{gathered, shapely_at, product_with};
 ghost use Rattle.terms.specs.Seven.{SumFits};
 ghost use Rattle.terms.specs.Read.{TermSays};
 ghost use Rattle.terms.specs.Gathering.{PartFits, PieceFits, GatheringFits, Gathers, NumbersBy};
 
 use crate::sums::{Sum, added, difference, flat, multiple, within};
-use crate::{ListHead, NUMBERS, TermPart};
+use crate::{Collected, HeadWord, NUMBERS};
 use lexicon::{Spot, lower};
 
 // A part's numbers, and whether it is a numeral.
@@ -37,10 +37,7 @@ impl Gathering {
             low: [0; NUMBERS],
             high: [0; NUMBERS],
         };
-        let fault = Spot {
-            there: false,
-            place: 0,
-        };
+        let fault = None;
         let piece = Piece {
             numeric: false,
             numbers: [0; NUMBERS],
@@ -63,7 +60,7 @@ fn next_count(count: usize) -> usize
 }
 
 // With a part behind the others.
-pub fn gather(g: Gathering, part: TermPart) -> Gathering
+pub fn gather(g: Gathering, part: Collected) -> Gathering
     requires { GatheringFits g × (SumFits g.sum.low g.sum.high × PartFits part) }
     ensures fits { GatheringFits result }
     ensures gathers { (ts : List Term) (t : Term) → Gathers ts g → TermSays t part → Gathers (ts ++ (t ∷ [])) result }
@@ -99,19 +96,15 @@ pub fn gather(g: Gathering, part: TermPart) -> Gathering
 }
 
 // Whether a list with this head has so many parts; numeral: whether one of two is a numeral.
-fn is_shapely(head: u8, count: usize, numeral: bool) -> bool
-    ensures { result ≡ shapely_at head count numeral }
+fn is_shapely(head: HeadWord, count: usize, numeral: bool) -> bool
+    ensures { result ≡ shapely_at (word_code head) count numeral }
 {
-    if head == ListHead::PLUS {
-        return 2 <= count;
+    match head {
+        HeadWord::Plus => 2 <= count,
+        HeadWord::Minus => (count == 1) | (count == 2),
+        HeadWord::Times => numeral & (count == 2),
+        _ => count == 2,
     }
-    if head == ListHead::MINUS {
-        return (count == 1) | (count == 2);
-    }
-    if head == ListHead::TIMES {
-        return numeral & (count == 2);
-    }
-    count == 2
 }
 
 // The product of two parts, one of them a numeral.
@@ -138,47 +131,42 @@ fn less(first: Piece, second: Piece) -> [i64; NUMBERS]
 }
 
 // The numbers of the whole list: one beyond the limit stands for any other beyond it.
-fn numbers_by(head: u8, g: Gathering) -> [i64; NUMBERS]
-    requires { GatheringFits g × (head ≡ 2 → (g.first.numeric || g.second.numeric) ≡ true) }
-    ensures { NumbersBy head g result }
+fn numbers_by(head: HeadWord, g: Gathering) -> [i64; NUMBERS]
+    requires { GatheringFits g × (word_code head ≡ 2 → (g.first.numeric || g.second.numeric) ≡ true) }
+    ensures { NumbersBy (word_code head) g result }
 {
     let first = g.first;
     let second = g.second;
-    if head == ListHead::PLUS {
-        let sum = g.sum;
-        return flat(sum);
+    match head {
+        HeadWord::Plus => flat(g.sum),
+        HeadWord::Times => product(first, second),
+        HeadWord::Minus => {
+            if g.count == 1 {
+                return difference([0; NUMBERS], first.numbers);
+            }
+            less(first, second)
+        }
+        HeadWord::Equal | HeadWord::AtMost | HeadWord::Less => less(first, second),
+        _ => less(second, first),
     }
-    if head == ListHead::TIMES {
-        return product(first, second);
-    }
-    if (head == ListHead::MINUS) & (g.count == 1) {
-        let numbers = first.numbers;
-        return difference([0; NUMBERS], numbers);
-    }
-    if head < ListHead::AT_LEAST {
-        return less(first, second);
-    }
-    less(second, first)
 }
 
 // What the parts are together, at the list's place.
-pub fn settled(head: u8, place: usize, g: Gathering, next: usize) -> TermPart
+pub fn settled(head: HeadWord, place: usize, g: Gathering) -> Collected
     requires { GatheringFits g }
-    ensures next { (result.next ≡ next) × (result.ended ≡ false) }
-    ensures says { (h : Head) (ts : List Term) → head ≡ head_code h → head ≤ 7 → Gathers ts g → TermSays (gathered h place ts) result }
+    ensures { (h : Head) (ts : List Term) → word_code head ≡ head_code h → word_code head ≤ 7 → Gathers ts g → TermSays (gathered h place ts) result }
 {
     let first = g.first;
     let second = g.second;
     if !is_shapely(head, g.count, first.numeric | second.numeric) {
-        return TermPart::outside(place, next);
+        return Collected::outside(place);
     }
-    let fault = g.fault;
-    if fault.there {
-        return TermPart::faulty(false, fault, next);
+    if g.fault.is_some() {
+        return Collected::faulty(false, g.fault);
     }
     let numbers = numbers_by(head, g);
     if within(numbers) {
-        return TermPart::of(false, numbers, next);
+        return Collected::of(false, numbers);
     }
-    TermPart::outside(place, next)
+    Collected::outside(place)
 }

@@ -1,69 +1,80 @@
-// Symbols as heads of lists, by their length.
-ghost use Rattle.std.specs.Prelude.{◌≡◌, [], ◌∷◌, ◌≤◌, ◌-◌, length};
+// Symbols as heads of lists.
+#![tactic(auto, unfolding(crate::proofs::Opened::heads))]
+
+ghost use Rattle.std.specs.Prelude.{◌≡◌, ◌≤◌, length};
 ghost use Rattle.smtlib.specs.Terms.{head_named};
 ghost use Rattle.lexicon.specs.Spots.{stretch};
-ghost use Rattle.terms.specs.Heads.{head_code};
+ghost use Rattle.terms.specs.Heads.{word_code, head_code, KindSays};
 
-use crate::ListHead;
-use lexicon::spelt;
+// The word at a list's head.
+#[derive(Clone, Copy, PartialEq, Eq)]
+pub enum HeadWord {
+    Plus,
+    Minus,
+    Times,
+    Equal,
+    AtMost,
+    Less,
+    AtLeast,
+    Greater,
+    Not,
+    And,
+    Or,
+    // No word that the subset knows.
+    Other,
+}
 
-fn head_of_one(byte: u8) -> u8
-    ensures { result ≡ head_code (head_named (byte ∷ [])) }
-{
-    match byte {
-        b'+' => ListHead::PLUS,
-        b'-' => ListHead::MINUS,
-        b'*' => ListHead::TIMES,
-        b'=' => ListHead::EQUAL,
-        b'<' => ListHead::BELOW,
-        b'>' => ListHead::ABOVE,
-        _ => ListHead::OTHER,
+// What a list is by its head.
+#[derive(Clone, Copy, PartialEq, Eq)]
+pub enum ListKind {
+    Term,
+    Comparison,
+    Connective,
+    Other,
+}
+
+impl HeadWord {
+    // What a list with this head is.
+    pub fn kind(self) -> ListKind
+        ensures { KindSays (word_code self) result }
+    {
+        match self {
+            HeadWord::Plus | HeadWord::Minus | HeadWord::Times => ListKind::Term,
+            HeadWord::Equal
+            | HeadWord::AtMost
+            | HeadWord::Less
+            | HeadWord::AtLeast
+            | HeadWord::Greater => ListKind::Comparison,
+            HeadWord::Not | HeadWord::And | HeadWord::Or => ListKind::Connective,
+            HeadWord::Other => ListKind::Other,
+        }
     }
 }
 
-fn head_of_two(text: &[u8], from: usize, to: usize) -> u8
-    requires { (from ≤ to) × (to ≤ length text.now) × (to - from ≡ 2) }
-    ensures { result ≡ head_code (head_named (stretch text.now from to)) }
+// The head that a symbol is.
+fn head_named(word: &[u8]) -> HeadWord
+    ensures { word_code result ≡ head_code (head_named word.now) }
 {
-    if spelt(text, from, to, b"<=") {
-        return ListHead::AT_MOST;
+    match word {
+        [b'+'] => HeadWord::Plus,
+        [b'-'] => HeadWord::Minus,
+        [b'*'] => HeadWord::Times,
+        [b'='] => HeadWord::Equal,
+        [b'<'] => HeadWord::Less,
+        [b'>'] => HeadWord::Greater,
+        [b'<', b'='] => HeadWord::AtMost,
+        [b'>', b'='] => HeadWord::AtLeast,
+        [b'o', b'r'] => HeadWord::Or,
+        [b'n', b'o', b't'] => HeadWord::Not,
+        [b'a', b'n', b'd'] => HeadWord::And,
+        _ => HeadWord::Other,
     }
-    if spelt(text, from, to, b">=") {
-        return ListHead::AT_LEAST;
-    }
-    if spelt(text, from, to, b"or") {
-        return ListHead::OR;
-    }
-    ListHead::OTHER
 }
 
-fn head_of_three(text: &[u8], from: usize, to: usize) -> u8
-    requires { (from ≤ to) × (to ≤ length text.now) × (to - from ≡ 3) }
-    ensures { result ≡ head_code (head_named (stretch text.now from to)) }
-{
-    if spelt(text, from, to, b"not") {
-        return ListHead::NOT;
-    }
-    if spelt(text, from, to, b"and") {
-        return ListHead::AND;
-    }
-    ListHead::OTHER
-}
-
-// The head that a symbol is, by its length.
-pub fn head_code(text: &[u8], from: usize, to: usize) -> u8
+// The head that a stretch of the text is.
+pub fn head_between(text: &[u8], from: usize, to: usize) -> HeadWord
     requires { (from ≤ to) × (to ≤ length text.now) }
-    ensures { result ≡ head_code (head_named (stretch text.now from to)) }
+    ensures { word_code result ≡ head_code (head_named (stretch text.now from to)) }
 {
-    let length = to - from;
-    if length == 1 {
-        return head_of_one(text[from]);
-    }
-    if length == 2 {
-        return head_of_two(text, from, to);
-    }
-    if length == 3 {
-        return head_of_three(text, from, to);
-    }
-    ListHead::OTHER
+    head_named(&text[from..to])
 }

@@ -1,7 +1,7 @@
 // The seven numbers of a term: differences, multiples, and sums of any number of terms.
 ghost use Rattle.std.specs.Prelude.{◌≡◌, ◌≤◌, T, nat_abs};
 ghost use Rattle.smtlib.specs.Terms.{most_numeral, most_collected, less, scaled, collected_fit};
-ghost use Rattle.terms.specs.Seven.{most_low, small_number, LaneFits, LaneAdded, LaneFlat, LowFits, SumFits, SumAdded, SumFlat};
+ghost use Rattle.terms.specs.Seven.{most_low, LaneFits, LaneAdded, LaneFlat, LowFits, SumFits, SumAdded, SumFlat};
 
 use crate::NUMBERS;
 
@@ -25,9 +25,7 @@ const MOST_LOW: i64 = 562_949_953_421_312;
 
 const LEAST_LOW: i64 = -562_949_953_421_312;
 
-const MOST_COLLECTED: i64 = 1_099_511_627_776;
-
-const LEAST_COLLECTED: i64 = -1_099_511_627_776;
+const MOST_COLLECTED: u64 = 1_099_511_627_776;
 
 // A number of a sum with a part added to it.
 fn added_lane(low: i64, high: i64, part: i64) -> Lane
@@ -57,37 +55,21 @@ pub fn added(sum: Sum, part: [i64; NUMBERS]) -> Sum
 {
     let mut low = sum.low;
     let mut high = sum.high;
-    let mut i = 0;
-    while i < NUMBERS {
+    for i in 0..NUMBERS {
         let lane = added_lane(low[i], high[i], part[i]);
-        let l = lane.low;
-        let h = lane.high;
-        low[i] = l;
-        high[i] = h;
-        i += 1;
+        low[i] = lane.low;
+        high[i] = lane.high;
     }
     Sum { low, high }
-}
-
-// Whether a number is at most 2^40 either way.
-fn is_small(number: i64) -> bool
-    ensures { result ≡ small_number number }
-{
-    LEAST_COLLECTED <= number && number <= MOST_COLLECTED
 }
 
 // Whether every number is at most 2^40 either way.
 pub fn within(numbers: [i64; NUMBERS]) -> bool
     ensures { result ≡ collected_fit numbers }
 {
-    let mut i = 0;
-    while i < NUMBERS {
-        if !is_small(numbers[i]) {
-            return false;
-        }
-        i += 1;
-    }
-    true
+    numbers
+        .iter()
+        .all(|number| number.unsigned_abs() <= MOST_COLLECTED)
 }
 
 // A number of a sum: one beyond the limit stands for any other beyond it.
@@ -106,11 +88,8 @@ pub fn flat(sum: Sum) -> [i64; NUMBERS]
     let low = sum.low;
     let high = sum.high;
     let mut numbers = [0i64; NUMBERS];
-    let mut i = 0;
-    while i < NUMBERS {
-        let number = flat_lane(low[i], high[i]);
-        numbers[i] = number;
-        i += 1;
+    for i in 0..NUMBERS {
+        numbers[i] = flat_lane(low[i], high[i]);
     }
     numbers
 }
@@ -121,10 +100,8 @@ pub fn difference(first: [i64; NUMBERS], second: [i64; NUMBERS]) -> [i64; NUMBER
     ensures { result ≡ less first second }
 {
     let mut numbers = [0i64; NUMBERS];
-    let mut i = 0;
-    while i < NUMBERS {
+    for i in 0..NUMBERS {
         numbers[i] = first[i] - second[i];
-        i += 1;
     }
     numbers
 }
@@ -135,10 +112,8 @@ pub fn multiple(factor: i64, of: [i64; NUMBERS]) -> [i64; NUMBERS]
     ensures { result ≡ scaled factor of }
 {
     let mut numbers = [0i64; NUMBERS];
-    let mut i = 0;
-    while i < NUMBERS {
+    for i in 0..NUMBERS {
         numbers[i] = factor * of[i];
-        i += 1;
     }
     numbers
 }

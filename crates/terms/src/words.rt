@@ -5,25 +5,29 @@ ghost use Rattle.smtlib.specs.Forms.{numeral, symbol};
 ghost use Rattle.lexicon.specs.Spots.{stretch};
 ghost use Rattle.forms.specs.Read.{OTHER, clipped};
 ghost use Rattle.terms.specs.Names.{names_in, NamesStand, IndexOf};
-ghost use Rattle.terms.specs.Read.{TermOf, WordTermed};
+ghost use Rattle.terms.specs.Read.{TermSays, WordTermed};
 
-use crate::{NUMBERS, TermPart};
+use crate::{Collected, NUMBERS, TermPart};
 use forms::Form;
 use lexicon::{Spot, same_stretch};
 
-// The number of a name among those declared so far; their count where it is none of them.
-pub fn name_index(text: &[u8], from: usize, to: usize, names: &[usize], count: usize) -> usize
+// The number of a name among those declared so far.
+pub fn name_index(
+    text: &[u8],
+    from: usize,
+    to: usize,
+    names: &[usize],
+    count: usize,
+) -> Option<usize>
     requires { NamesStand text.now names.now count × ((from ≤ to) × (to ≤ length text.now)) }
     ensures { IndexOf (index_from 0 (stretch text.now from to) (names_in text.now names.now count)) count result }
 {
-    let mut i = 0;
-    while i < count {
+    for i in 0..count {
         if same_stretch(text, from, to, names[2 * i], names[2 * i + 1]) {
-            return i;
+            return Some(i);
         }
-        i += 1;
     }
-    count
+    None
 }
 
 // A constant alone.
@@ -32,6 +36,7 @@ fn constant(value: u64) -> [i64; NUMBERS]
     ensures { result ≡ constantly (pos value) }
 {
     let mut numbers = [0i64; NUMBERS];
+    // i64 has no From<u64>.
     numbers[0] = value as i64;
     numbers
 }
@@ -50,14 +55,13 @@ fn one_of(i: usize) -> [i64; NUMBERS]
 const MOST_NUMERAL: u64 = 1_000_000;
 
 // A numeral as a term.
-fn numeral_term(value: u64, place: usize, next: usize) -> TermPart
-    ensures { (names : List (List ℕ)) (v : ℕ) → value ≡ clipped v → TermOf (word_term names place (numeral v)) next result }
+fn numeral_term(value: u64, place: usize) -> Collected
+    ensures { (names : List (List ℕ)) (v : ℕ) → value ≡ clipped v → TermSays (word_term names place (numeral v)) result }
 {
     if value <= MOST_NUMERAL {
-        return TermPart::of(true, constant(value), next);
+        return Collected::of(true, constant(value));
     }
-    let fault = Spot { there: true, place };
-    TermPart::faulty(true, fault, next)
+    Collected::faulty(true, Some(place))
 }
 
 // A symbol as a term.
@@ -68,16 +72,14 @@ fn name_term(
     place: usize,
     names: &[usize],
     count: usize,
-    next: usize,
-) -> TermPart
+) -> Collected
     requires { NamesStand text.now names.now count × ((from ≤ to) × (to ≤ length text.now)) }
-    ensures { TermOf (word_term (names_in text.now names.now count) place (symbol (stretch text.now from to))) next result }
+    ensures { TermSays (word_term (names_in text.now names.now count) place (symbol (stretch text.now from to))) result }
 {
-    let i = name_index(text, from, to, names, count);
-    if i < count {
-        return TermPart::of(false, one_of(i), next);
+    match name_index(text, from, to, names, count) {
+        Some(i) => Collected::of(false, one_of(i)),
+        None => Collected::outside(place),
     }
-    TermPart::outside(place, next)
 }
 
 // A word as a term; no word is the end of the list.
@@ -86,15 +88,18 @@ pub fn word_term(text: &[u8], form: Form, names: &[usize], count: usize) -> Term
     ensures { WordTermed text.now (names_in text.now names.now count) form result }
 {
     if form.kind < Form::NUMERAL {
-        return TermPart::end(form.next);
+        return TermPart {
+            term: None,
+            next: form.next,
+        };
     }
     if form.kind == Form::NUMERAL {
-        return numeral_term(form.value, form.place, form.next);
+        let numeral = numeral_term(form.value, form.place);
+        return TermPart::of(numeral, form.next);
     }
     if form.kind == Form::SYMBOL {
-        return name_term(
-            text, form.from, form.to, form.place, names, count, form.next,
-        );
+        let name = name_term(text, form.from, form.to, form.place, names, count);
+        return TermPart::of(name, form.next);
     }
-    TermPart::outside(form.place, form.next)
+    TermPart::of(Collected::outside(form.place), form.next)
 }

@@ -62,7 +62,7 @@ pub mod Lengths
 --   built_keys     after building as many key rows are filled as states are told, each with its state's cells
 pub mod Areas
 -- judging, the machine and the table agree
---   truth_yes         `truth_of b` is yes exactly if b is true
+--   truth_yes         the answer is yes exactly if b is true
 --   Taken             there are n values, each below 2 ^ 40
 --   spelled_over      the word of 40 letters of such values is over the letters of n variables
 --   word_spells       it spells the values
@@ -73,7 +73,7 @@ pub mod Agreement
 --   held_in            the held value of the question that bytes are
 --   Read               bytes are a question's, or reading refuses them
 --   a_question         they are a question's
---   refused_by_lem     reading refuses them by ρ
+--   no_question        reading refuses them by ρ
 --   not_both           a question's bytes are not refused by reading
 --   either_way         any bytes are a question's or are refused
 --   Guarded            the bytes are a question's, the reachable states are at most the rows lent, and no naturals make its tree true

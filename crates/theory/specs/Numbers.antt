@@ -67,7 +67,6 @@ pub mod Magnitude
 -- signed numbers by their bits, as code holds and compares them
 --   same_bits   numbers that fit a width and have the same bits are equal
 --   test_bits   of numbers that fit a width, the test whether their bits are equal is the test whether they are
---   fits_64     a number that fits 32 bits fits 64
 --   read        a number that fits 32 bits is what is read from its bits
 --   widened     a number that fits 32 bits is what is read from its bits, put into 64 and read again
 pub mod Bits

@@ -14,7 +14,7 @@
 --   FirstFailing       a check fails, those before it are passed, and the refusal r is by its number and its place
 --   some_iff_failing   checks give the refusal r exactly if it is that of the first that fails
 --   passed_append      behind checks that are passed, those that follow decide
---   EveryNumber        P holds of the number of every check
+--   EveryRule        P holds of the number of every check
 --   failing_numbered   and so of that of the first that fails
 --   onward_stopped     work that was stopped stays so, however many steps are left
 --   onward_ended       work that has ended stays so, however many steps are left

@@ -1,11 +1,11 @@
 -- Document 01, the end of "Checked by hand": what the asking program prints of an answer, byte by byte.
-use Rattle.std.specs.Prelude.{ℕ, ◌≤◌, ◌≡◌, Bool, true, false, cond, List, [], ◌∷◌, ◌++◌, length, take, leb, eqb}
+use Rattle.std.specs.Prelude.{ℕ, ◌≤◌, ◌≡◌, Bool, true, false, cond, List, [], ◌∷◌, ◌++◌, length, take, leb, eqb, Ok, Err, Result}
 use Prim.Native.Char.{code}
 use Prim.Native.String.{String}
-use Rattle.scope.specs.declared.DecideAnswer.{DecideAnswer}
-use Rattle.scope.specs.declared.SpellAnswer.{SpellAnswer}
+use Rattle.scope.specs.declared.Decision.{Decision}
 use Rattle.scope.specs.declared.Refusal.{Refusal}
 use Rattle.scope.specs.Whole.{at_front}
+use Rattle.scope.specs.Refusals.{rule_number}
 use Rattle.scope.specs.Words.{Word, spelled, spelt}
 use Rattle.told.specs.Decimal.{decimal}
 
@@ -31,9 +31,9 @@ line_of about said = about ++ (said ++ (10 ∷ []))
 -- ---- the lines
 
 -- a word that spelling refuses is long: the n and the letters of a found word fit, so it has more than 64 letters
-abbrev pub values_by : SpellAnswer → ℕ → Word → List ℕ
-values_by (SpellAnswer.Value v) n w = numbers (spelled n w)
-values_by (SpellAnswer.Refused r) n w = ascii " long"
+abbrev pub values_by : Result ℕ Refusal → ℕ → Word → List ℕ
+values_by (Ok v) n w = numbers (spelled n w)
+values_by (Err r) n w = ascii " long"
 
 abbrev pub values_said : ℕ → Word → List ℕ
 values_said n w = values_by (spelt n 1 w) n w
@@ -72,15 +72,15 @@ unfoldable pub no_room_text : ℕ → List ℕ
 no_room_text states = line_of (ascii "verdict") (ascii " no-room") ++ states_line states
 
 unfoldable pub refused_text : Refusal → List ℕ
-refused_text r = line_of (ascii "refused") (spaced r.number ++ (ascii " at" ++ spaced r.place))
+refused_text r = line_of (ascii "refused") (spaced (rule_number r.rule) ++ (ascii " at" ++ spaced r.place))
 
 -- the word is at the front of its buffer
-abbrev pub text_of : ℕ → DecideAnswer → List ℕ → List ℕ
-text_of n (DecideAnswer.Found states letters) word = found_text n states (take letters word)
-text_of n (DecideAnswer.Never states) word = never_text states
-text_of n (DecideAnswer.NoRoom states) word = no_room_text states
-text_of n (DecideAnswer.Short states letters) word = short_text states
-text_of n (DecideAnswer.Refused r) word = refused_text r
+abbrev pub text_of : ℕ → Result Decision Refusal → List ℕ → List ℕ
+text_of n (Ok (Decision.Found states letters)) word = found_text n states (take letters word)
+text_of n (Ok (Decision.Never states)) word = never_text states
+text_of n (Ok (Decision.NoRoom states)) word = no_room_text states
+text_of n (Ok (Decision.Short states letters)) word = short_text states
+text_of n (Err r) word = refused_text r
 
 -- ---- telling: the bytes of the text, 0 where the buffer is too short for it, and the buffer afterwards
 
@@ -96,7 +96,7 @@ abbrev pub told_if : Bool → List ℕ → List ℕ → Telling
 told_if true text out = telling (length text) (at_front text out)
 told_if false text out = telling 0 out
 
-unfoldable pub told : ℕ → DecideAnswer → List ℕ → List ℕ → Telling
+unfoldable pub told : ℕ → Result Decision Refusal → List ℕ → List ℕ → Telling
 told n answer word out = let text = text_of n answer word in told_if (leb (length text) (length out)) text out
 
 -- the bytes that have room for every text
@@ -104,6 +104,6 @@ abbrev pub longest : ℕ
 longest = 4352
 
 -- what telling leaves
-pub record TextTells (n : ℕ) (answer : DecideAnswer) (word out : List ℕ) (r : ℕ) (after : List ℕ) : Type 0 where
+pub record TextTells (n : ℕ) (answer : Result Decision Refusal) (word out : List ℕ) (r : ℕ) (after : List ℕ) : Type 0 where
   pub is : telling r after ≡ told n answer word out
   pub room : longest ≤ length out → length (text_of n answer word) ≤ length out

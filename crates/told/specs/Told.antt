@@ -1,9 +1,10 @@
 -- What a caller of `tell` learns: where the buffer has room for every text, its front is the text; and of a found word, document 01's test for its values.
-use Rattle.std.specs.Prelude.{ℕ, ◌≤◌, ◌<◌, ◌≡◌, true, List, ◌++◌, length, take, drop}
+use Rattle.std.specs.Prelude.{ℕ, ◌≤◌, ◌<◌, ◌≡◌, true, List, ◌++◌, length, take, drop, Result}
 use Rattle.std.proofs.Common.{arith, ap, length-append}
 use Rattle.std.proofs.Math.Seq.{take-append_seam}
 use borrow.Author.Tests.{le-leb, lt-leb}
-use Rattle.scope.specs.declared.DecideAnswer.{DecideAnswer}
+use Rattle.scope.specs.declared.Refusal.{Refusal}
+use Rattle.scope.specs.declared.Decision.{Decision}
 use Rattle.scope.specs.Whole.{at_front}
 use Rattle.scope.specs.Sizes.{variables_fit}
 use Rattle.scope.specs.Refusals.{first_refusal}
@@ -13,7 +14,7 @@ use Rattle.told.specs.Values.{Spellable, spelt_value}
 use Rattle.told.specs.Text.{ascii, numbers, values_said, longest, text_of, Telling, telling, told, TextTells}
 
 -- a text that has room stands at the front
-pub told_whole : (n : ℕ) (answer : DecideAnswer) (word out : List ℕ) (r : ℕ) (l : List ℕ) → TextTells n answer word out r l → longest ≤ length out
+pub told_whole : (n : ℕ) (answer : Result Decision Refusal) (word out : List ℕ) (r : ℕ) (l : List ℕ) → TextTells n answer word out r l → longest ≤ length out
     → (r ≡ length (text_of n answer word)) × (take r l ≡ text_of n answer word) × (r ≤ length l)
 unfolding told at_front
 told_whole n answer word out r l t h =

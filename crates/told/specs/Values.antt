@@ -1,8 +1,7 @@
 -- The values of a word that spelling takes, one by one, and numbers one after the other.
-use Rattle.std.specs.Prelude.{ℕ, zero, suc, ◌+◌, ◌-◌, ◌≤◌, ◌≡◌, refl, Bool, true, false, ◌&&◌, List, [], ◌∷◌, ◌++◌, length, leb}
+use Rattle.std.specs.Prelude.{ℕ, zero, suc, ◌+◌, ◌-◌, ◌≤◌, ◌≡◌, refl, Bool, true, false, ◌&&◌, List, [], ◌∷◌, ◌++◌, length, leb, Ok, Err}
 use Rattle.std.proofs.Common.{add-zero, add-one, arith, sym, ap, ◌∙◌, append_assoc, append-nil, le-leb}
 use Rattle.scope.specs.declared.Refusal.{Refusal}
-use Rattle.scope.specs.declared.SpellAnswer.{SpellAnswer}
 use Rattle.scope.specs.Sizes.{variables_fit, most_spelled}
 use Rattle.scope.specs.Refusals.{first_refusal}
 use Rattle.scope.specs.Words.{Word, value, values_from, spelled, spelt, letters_fit}
@@ -16,10 +15,10 @@ pub record Spellable (n : ℕ) (w : Word) : Type 0 where
   pub short : leb (length w) most_spelled ≡ true
 
 -- a value is no refusal
-differ : {r : Refusal} {v : ℕ} → SpellAnswer.Refused r ≡ SpellAnswer.Value v → ⊥
+differ : {r : Refusal} {v : ℕ} → Err r ≡ Ok v → ⊥
 differ e = let z : ◌≡◌ {A = ℕ} 0 1 = cc in omega arith
 
-pub spellable : (n variable : ℕ) (w : Word) (v : ℕ) → spelt n variable w ≡ SpellAnswer.Value v → Spellable n w
+pub spellable : (n variable : ℕ) (w : Word) (v : ℕ) → spelt n variable w ≡ Ok v → Spellable n w
 unfolding spelt first_refusal
 spellable n variable w v e = go (variables_fit n) (leb 1 variable && leb variable n) (letters_fit n w) (leb (length w) most_spelled) refl refl refl refl
   where
@@ -35,15 +34,15 @@ within true b p q = q
 within false b p q = p
 
 module _ (n variable : ℕ) (w : Word) (s : Spellable n w) (h : 1 ≤ variable) (g : variable ≤ n) where
-  pub spelt_value : spelt n variable w ≡ SpellAnswer.Value (value w (variable - 1))
+  pub spelt_value : spelt n variable w ≡ Ok (value w (variable - 1))
   unfolding spelt first_refusal
   spelt_value = rw (s.variables, within (leb 1 variable) (leb variable n) (le-leb 1 variable h) (le-leb variable n g), s.letters, s.short)
 
   -- whatever spelling gives is that value, and no refusal
-  pub value_is : (v : ℕ) → spelt n variable w ≡ SpellAnswer.Value v → v ≡ value w (variable - 1)
+  pub value_is : (v : ℕ) → spelt n variable w ≡ Ok v → v ≡ value w (variable - 1)
   value_is v e = let z = spelt_value in cc
 
-  pub no_refusal : (r : Refusal) → spelt n variable w ≡ SpellAnswer.Refused r → ⊥
+  pub no_refusal : (r : Refusal) → spelt n variable w ≡ Err r → ⊥
   no_refusal r e = differ (sym e ∙ spelt_value)
 
 pub six_variables : (n : ℕ) (w : Word) → Spellable n w → n ≤ 6

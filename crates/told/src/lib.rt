@@ -8,7 +8,7 @@ ghost use Rattle.told.specs.Text.{spaced, numbers, values_said, values_line, let
 ghost use Rattle.told.specs.Writers.{Put};
 ghost use Rattle.told.specs.Values.{Spellable};
 
-use scope::{DecideAnswer, Refusal, SpellAnswer};
+use scope::{Decision, Refusal};
 
 // The most letters of a word that is told: the asking program's word buffer.
 const LETTERS: usize = 1_024;
@@ -28,13 +28,8 @@ pub fn put_bytes(bytes: &[u8], out: &mut [u8], at: usize) -> usize
     requires { at + length bytes.now ≤ length out.old }
     ensures { Put bytes.now at out.old result out.new }
 {
-    let mut next = at;
-    let mut i = 0;
-    while i < bytes.len() {
-        out[next] = bytes[i];
-        next += 1;
-        i += 1;
-    }
+    let next = at + bytes.len();
+    out[at..next].copy_from_slice(bytes);
     next
 }
 
@@ -42,7 +37,7 @@ fn digit(d: u64) -> u8
     requires { d < 10 }
     ensures { result ≡ digit_byte d }
 {
-    48 + d as u8
+    b'0' + d as u8
 }
 
 pub fn put_decimal(v: u64, out: &mut [u8], at: usize) -> usize
@@ -65,23 +60,14 @@ pub fn put_number(v: u64, out: &mut [u8], at: usize) -> usize
     put_decimal(v, out, start)
 }
 
-fn put_letter(letter: u8, out: &mut [u8], at: usize) -> usize
-    requires { at + 4 ≤ length out.old }
-    ensures { Put (spaced letter) at out.old result out.new × (result ≤ at + 4) }
-{
-    let start = put_byte(b' ', out, at);
-    put_decimal(letter as u64, out, start)
-}
-
 fn put_letters(word: &[u8], out: &mut [u8], at: usize) -> usize
     requires { at + 4 * length word.now ≤ length out.old }
     ensures { Put (numbers word.now) at out.old result out.new × (result ≤ at + 4 * length word.now) }
 {
     let mut next = at;
-    let mut i = 0;
-    while i < word.len() {
-        next = put_letter(word[i], out, next);
-        i += 1;
+    for &letter in word {
+        let start = put_byte(b' ', out, next);
+        next = put_decimal(u64::from(letter), out, start);
     }
     next
 }
@@ -90,7 +76,7 @@ fn letters_said(word: &[u8], out: &mut [u8], at: usize) -> usize
     requires { at + 4096 ≤ length out.old }
     ensures { Put (letters_said word.now) at out.old result out.new × (result ≤ at + 4096) }
 {
-    if word.len() == 0 {
+    if word.is_empty() {
         return put_bytes(b" none", out, at);
     }
     if LETTERS < word.len() {
@@ -113,7 +99,7 @@ pub fn value_of(n: usize, variable: usize, word: &[u8]) -> u64
     requires { Spellable n word.now × (1 ≤ variable) × (variable ≤ n) }
     ensures { result ≡ value word.now (variable - 1) }
 {
-    let SpellAnswer::Value(v) = words::spell(n, variable, word) else {
+    let Ok(v) = words::spell(n, variable, word) else {
         return 0;
     };
     v
@@ -124,10 +110,8 @@ fn put_values(n: usize, word: &[u8], out: &mut [u8], at: usize) -> usize
     ensures { Put (numbers (spelled n word.now)) at out.old result out.new × (result ≤ at + 126) }
 {
     let mut next = at;
-    let mut variable = 0;
-    while variable < n {
-        variable += 1;
-        next = put_number(value_of(n, variable, word), out, next);
+    for j in 0..n {
+        next = put_number(value_of(n, j + 1, word), out, next);
     }
     next
 }
@@ -137,8 +121,8 @@ fn values_said(n: usize, word: &[u8], out: &mut [u8], at: usize) -> usize
     ensures { Put (values_said n word.now) at out.old result out.new × (result ≤ at + 126) }
 {
     match words::spell(n, 1, word) {
-        SpellAnswer::Value(_) => put_values(n, word, out, at),
-        SpellAnswer::Refused(_) => put_bytes(b" long", out, at),
+        Ok(_) => put_values(n, word, out, at),
+        Err(_) => put_bytes(b" long", out, at),
     }
 }
 
@@ -198,12 +182,10 @@ fn refused_text(refusal: Refusal, out: &mut [u8]) -> usize
     requires { longest ≤ length out.old }
     ensures { Put (refused_text refusal) 0 out.old result out.new × (result ≤ longest) }
 {
-    let number = refusal.number;
-    let place = refusal.place;
     let start = put_bytes(b"refused", out, 0);
-    let said = put_letter(number, out, start);
+    let said = put_number(u64::from(refusal.rule.number()), out, start);
     let before = put_bytes(b" at", out, said);
-    let end = put_number(place as u64, out, before);
+    let end = put_number(refusal.place as u64, out, before);
     put_byte(b'\n', out, end)
 }
 
@@ -211,34 +193,30 @@ fn refused_text(refusal: Refusal, out: &mut [u8]) -> usize
 pub fn word_of<'a>(word: &'a [u8], letters: usize) -> &'a [u8]
     ensures { result.now ≡ take letters word.now }
 {
-    if letters <= word.len() {
-        &word[..letters]
-    } else {
-        &word[..]
-    }
+    &word[..letters.min(word.len())]
 }
 
-fn put_text(n: usize, answer: DecideAnswer, word: &[u8], out: &mut [u8]) -> usize
+fn put_text(n: usize, answer: Result<Decision, Refusal>, word: &[u8], out: &mut [u8]) -> usize
     requires { longest ≤ length out.old }
     ensures { Put (text_of n answer word.now) 0 out.old result out.new × (result ≤ longest) }
 {
     match answer {
-        DecideAnswer::Found { states, letters } => found_text(
+        Ok(Decision::Found { states, letters }) => found_text(
             n,
             states,
             word_of(word, letters),
             out,
         ),
-        DecideAnswer::Never { states } => never_text(states, out),
-        DecideAnswer::NoRoom { states } => no_room_text(states, out),
-        DecideAnswer::Short { states, letters: _ } => short_text(states, out),
-        DecideAnswer::Refused(refusal) => refused_text(refusal, out),
+        Ok(Decision::Never { states }) => never_text(states, out),
+        Ok(Decision::NoRoom { states }) => no_room_text(states, out),
+        Ok(Decision::Short { states, letters: _ }) => short_text(states, out),
+        Err(refusal) => refused_text(refusal, out),
     }
 }
 
 // Puts the text of an answer at the front of out and answers its length; 0, and out as it was, where out is too short. The word is at the
 // front of its buffer.
-pub fn tell(n: usize, answer: DecideAnswer, word: &[u8], out: &mut [u8]) -> usize
+pub fn tell(n: usize, answer: Result<Decision, Refusal>, word: &[u8], out: &mut [u8]) -> usize
     ensures { TextTells n answer word.now out.old result out.new }
 {
     let mut text = [0u8; LONGEST];

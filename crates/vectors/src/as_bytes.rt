@@ -2,140 +2,104 @@
 // import TEXT held N CODES COEFFICIENTS CONSTANTS | refused NUMBER PLACE
 // write N CODES COEFFICIENTS CONSTANTS ROOM = written BYTES | refused NUMBER PLACE
 // record BYTES AT = record KIND BODY NEXT | refused NUMBER PLACE
-use crate::numbers::{BYTES, bytes_in, is_hex, item, items, signed, small};
-use crate::parts::{hex_part, is_refused, is_said, outcome, part, part_number};
-use compared::buffers::{BYTE_MARK, bytes_hold, front_bytes, same_question, stretch};
+use crate::numbers::{BYTES, bytes_in, items, list_in, signed, small};
+use crate::parts::{hex_part, is_refused, is_said, natural_part, outcome, part, size_part};
+use compared::buffers::{BYTE_MARK, all_marked, front, same_question};
 use compared::text::rest;
-use scope::{Held, Question, ReadAnswer, RecordAnswer, WriteAnswer};
+use scope::{Question, Record, Refusal};
 
-fn codes_in(list: &[u8]) -> [u8; Question::NODES] {
-    let mut codes = [0u8; Question::NODES];
-    let mut i = 0;
-    while i < Question::NODES {
-        codes[i] = small(item(list, i));
-        i += 1;
+// The question in four words, where it has all its numbers there.
+fn question_in(four: &[u8]) -> Option<Question> {
+    let n = u8::try_from(natural_part(four, 0)).ok()?;
+    let codes = part(four, 1);
+    let coefficients = part(four, 2);
+    let constants = part(four, 3);
+    if items(codes) != Question::NODES
+        || items(coefficients) != Question::COEFFICIENTS
+        || items(constants) != Question::ATOMS
+    {
+        return None;
     }
-    codes
+    Some(Question {
+        n,
+        codes: list_in(codes, 0, small),
+        coefficients: list_in(coefficients, 0, signed),
+        constants: list_in(constants, 0, signed),
+    })
 }
 
-fn coefficients_in(list: &[u8]) -> [i32; Question::COEFFICIENTS] {
-    let mut all = [0i32; Question::COEFFICIENTS];
-    let mut i = 0;
-    while i < Question::COEFFICIENTS {
-        all[i] = signed(item(list, i));
-        i += 1;
-    }
-    all
-}
-
-fn constants_in(list: &[u8]) -> [i32; Question::ATOMS] {
-    let mut all = [0i32; Question::ATOMS];
-    let mut i = 0;
-    while i < Question::ATOMS {
-        all[i] = signed(item(list, i));
-        i += 1;
-    }
-    all
-}
-
-// The question in four words.
-fn question_in(four: &[u8]) -> Question {
-    let codes = codes_in(part(four, 1));
-    let coefficients = coefficients_in(part(four, 2));
-    let constants = constants_in(part(four, 3));
-    Question {
-        n: small(part_number(four, 0)),
-        codes,
-        coefficients,
-        constants,
-    }
-}
-
-// Whether it has all its numbers there.
-fn is_question(four: &[u8]) -> bool {
-    (part_number(four, 0) < 256)
-        & (items(part(four, 1)) == Question::NODES)
-        & (items(part(four, 2)) == Question::COEFFICIENTS)
-        & (items(part(four, 3)) == Question::ATOMS)
-}
-
-// Whether four words are a question.
-fn question_right(four: &[u8], question: Question) -> bool {
-    is_question(four) & same_question(question, question_in(four))
-}
-
-// Whether an outcome is what reading or importing gives: a name and a question, or a refusal and the empty one.
-fn held_right(told: &[u8], name: &[u8], held: Held) -> bool {
-    let answer = held.answer;
-    let question = held.question;
+// Whether an outcome is what reading or importing gives: a name and a question, or a refusal.
+fn held_right(told: &[u8], name: &str, answer: Result<Question, Refusal>) -> bool {
     match answer {
-        ReadAnswer::Accepted => {
-            is_said(told, name, 5) & question_right(rest(told, 1, b' '), question)
+        Ok(held) => {
+            is_said(told, name, 5)
+                && question_in(rest(told, 1, b' ')).is_some_and(|question| same_question(
+                    &held, &question,
+                ))
         }
-        ReadAnswer::Refused(refusal) => {
-            is_refused(told, refusal) & same_question(question, Question::empty())
-        }
+        Err(refusal) => is_refused(told, refusal),
     }
 }
 
 pub fn read_right(line: &[u8], bytes: &[u8]) -> bool {
-    held_right(outcome(line, 2), b"accepted", reading::read(bytes))
+    held_right(outcome(line, 2), "accepted", reading::read(bytes))
 }
 
 pub fn import_right(line: &[u8], text: &[u8]) -> bool {
-    let import = importing::import(text);
-    held_right(outcome(line, 2), b"held", import.held)
+    let answer = importing::import(text).map(|import| import.question);
+    held_right(outcome(line, 2), "held", answer)
 }
 
 // Whether bytes are those of a text in hexadecimal.
 fn same_bytes(text: &[u8], bytes: &[u8]) -> bool {
-    let wanted = bytes_in(text);
-    is_hex(text) & (stretch(&wanted, 0, text.len() / 2) == bytes)
+    let mut room = [0u8; BYTES];
+    bytes_in(text, &mut room).is_some_and(|wanted| wanted == bytes)
 }
 
 // Whether a buffer has the bytes told, and marks beyond.
-fn same_written(told: &[u8], bytes: &[u8], n: usize) -> bool {
-    is_said(told, b"written", 2)
-        & same_bytes(hex_part(told, 1), stretch(bytes, 0, n))
-        & bytes_hold(bytes, n, BYTE_MARK)
+fn same_written(told: &[u8], bytes: &[u8; BYTES], n: usize) -> bool {
+    let Some((written, beyond)) = bytes.split_at_checked(n) else {
+        return false;
+    };
+    is_said(told, "written", 2)
+        && same_bytes(hex_part(told, 1), written)
+        && all_marked(beyond, BYTE_MARK)
 }
 
-fn written(told: &[u8], answer: WriteAnswer, bytes: &[u8; BYTES]) -> bool {
+fn written(told: &[u8], answer: Result<usize, Refusal>, bytes: &[u8; BYTES]) -> bool {
     match answer {
-        WriteAnswer::Written(n) => same_written(told, bytes, n),
-        WriteAnswer::Refused(refusal) => {
-            is_refused(told, refusal) & bytes_hold(bytes, 0, BYTE_MARK)
-        }
+        Ok(n) => same_written(told, bytes, n),
+        Err(refusal) => is_refused(told, refusal) && all_marked(bytes, BYTE_MARK),
     }
 }
 
 pub fn write_right(line: &[u8]) -> bool {
-    let four = rest(line, 1, b' ');
-    let room = part_number(line, 5) as usize;
+    let room = size_part(line, 5);
+    let Some(question) = question_in(rest(line, 1, b' ')) else {
+        return false;
+    };
     if BYTES < room {
         return false;
     }
     let mut bytes = [BYTE_MARK; BYTES];
-    let answer = writing::write(question_in(four), front_bytes(&mut bytes, room));
-    is_question(four) & written(outcome(line, 6), answer, &bytes)
+    let answer = writing::write(&question, front(&mut bytes, room));
+    written(outcome(line, 6), answer, &bytes)
 }
 
-fn same_record(told: &[u8], kind: u16, body: &[u8], next: usize) -> bool {
-    is_said(told, b"record", 4)
-        & (part_number(told, 1) == kind as u64)
-        & same_bytes(hex_part(told, 2), body)
-        & (part_number(told, 3) == next as u64)
+fn same_record(told: &[u8], bytes: &[u8], record: Record) -> bool {
+    is_said(told, "record", 4)
+        && natural_part(told, 1) == u64::from(record.kind)
+        && same_bytes(
+            hex_part(told, 2),
+            records::body(bytes, record.start, record.len),
+        )
+        && size_part(told, 3) == record.next
 }
 
 pub fn record_right(line: &[u8], bytes: &[u8]) -> bool {
     let told = outcome(line, 3);
-    match records::record_at(bytes, part_number(line, 2) as usize) {
-        RecordAnswer::Record {
-            kind,
-            start,
-            len,
-            next,
-        } => same_record(told, kind, records::body(bytes, start, len), next),
-        RecordAnswer::Refused(refusal) => is_refused(told, refusal),
+    match records::record_at(bytes, size_part(line, 2)) {
+        Ok(record) => same_record(told, bytes, record),
+        Err(refusal) => is_refused(told, refusal),
     }
 }

@@ -1,8 +1,7 @@
 // ask BYTES = TEXT, its lines joined by |
 // The asking program's own function cannot be called: what it does is done here too.
-use crate::numbers::plus_if;
 use crate::parts::outcome;
-use compared::buffers::stretch;
+use compared::buffers::first;
 use scope::Question;
 
 // The asking program's room.
@@ -22,34 +21,22 @@ fn answer_to(bytes: &[u8], out: &mut [u8]) -> usize {
     let mut path = [0u16; PATH];
     let mut word = [0u8; LETTERS];
     let answer = decide::decide(bytes, &mut keys, &mut path, &mut word);
-    let held = reading::read(bytes);
-    let question = held.question;
-    told::tell(question.n as usize, answer, &word, out)
-}
-
-// The byte in a place of the text that joined lines tell.
-fn printed(lines: &[u8], i: usize) -> u8 {
-    if i < lines.len() {
-        if lines[i] != b'|' {
-            return lines[i];
-        }
-    }
-    b'\n'
+    let n = reading::read(bytes).map_or(0, |question| usize::from(question.n));
+    told::tell(n, answer, &word, out)
 }
 
 // Whether a text is that of joined lines.
 fn is_text(lines: &[u8], text: &[u8]) -> bool {
-    let mut same = text.len() == plus_if(true, lines.len());
-    let mut i = 0;
-    while i < text.len() {
-        same = same & (text[i] == printed(lines, i));
-        i += 1;
-    }
-    same
+    let Some((last, body)) = text.split_last() else {
+        return false;
+    };
+    let same = body.len() == lines.len()
+        && body.iter().zip(lines).all(|(b, told)| *b == if *told == b'|' { b'\n' } else { *told });
+    same && *last == b'\n'
 }
 
 pub fn ask_right(line: &[u8], bytes: &[u8]) -> bool {
     let mut text = [0u8; TEXT];
     let n = answer_to(bytes, &mut text);
-    is_text(outcome(line, 2), stretch(&text, 0, n))
+    is_text(outcome(line, 2), first(&text, n))
 }

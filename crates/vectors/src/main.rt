@@ -13,7 +13,7 @@ mod rows;
 mod spelling;
 mod tally;
 
-use compared::buffers::stretch;
+use compared::buffers::first;
 use std::fs::File;
 use std::io;
 use std::io::Write;
@@ -26,9 +26,9 @@ fn run_open<W: Write>(out: &mut W, file: &mut File) -> io::Result<()> {
     let mut text = [0u8; TEXT];
     let n = input::read_full(file, &mut text)?;
     if n == TEXT {
-        out.write_all(b"too long\n")
+        writeln!(out, "too long")
     } else {
-        tally::run(out, stretch(&text, 0, n))
+        tally::run(out, first(&text, n))
     }
 }
 
@@ -40,7 +40,8 @@ fn run_file(rt: &HostRuntime, name: &str) -> io::Result<()> {
 }
 
 fn main(rt: HostRuntime) -> io::Result<()> {
-    run_file(&rt, "base.txt")?;
-    run_file(&rt, "e1.txt")?;
-    run_file(&rt, "e2.txt")
+    for name in ["base.txt", "e1.txt", "e2.txt"] {
+        run_file(&rt, name)?;
+    }
+    Ok(())
 }

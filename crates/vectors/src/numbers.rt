@@ -1,162 +1,149 @@
 // Numbers as a line has them: decimal with a sign or without, lists of these joined by commas, and bytes in hexadecimal.
-ghost use Rattle.std.specs.Prelude.{◌≤◌};
-
-use compared::buffers::{BYTE_MARK, stretch};
-use compared::text::word;
-
-// What is read where there is no number.
-pub const NONE: u64 = 18_446_744_073_709_551_615;
-
-// A number below zero is told by this and its size.
-pub const BELOW: u64 = 9_223_372_036_854_775_808;
+use std::fmt;
 
 // The bytes of a question in a line at most.
 pub const BYTES: usize = 4_400;
 
-fn byte_at(text: &[u8], i: usize) -> u8 {
-    if i < text.len() { text[i] } else { 0 }
+// A number by its sign, which is the highest bit, and its size.
+#[derive(Clone, Copy, PartialEq, Eq, Debug)]
+pub struct Number(u64);
+
+impl Number {
+    const SIGN: u64 = 1 << 63;
+
+    // The number below zero of a size, where the sign leaves room for it.
+    fn below_zero(size: u64) -> Option<Number> {
+        if size < Self::SIGN {
+            Some(Number(Self::SIGN | size))
+        } else {
+            None
+        }
+    }
 }
 
-// A number with one digit more; none where the byte is no digit or it has more than 64 bits.
-fn value_on(value: u64, b: u8) -> u64 {
-    let d = (b as u64 + 208) % 256;
-    if 9 < d {
-        return NONE;
-    }
-    if (u64::MAX - d) / 10 < value {
-        NONE
-    } else {
-        10 * value + d
+impl From<i32> for Number {
+    fn from(number: i32) -> Number {
+        let size = u64::from(number.unsigned_abs());
+        if number < 0 {
+            Number(Self::SIGN | size)
+        } else {
+            Number(size)
+        }
     }
 }
 
-// What no digits make of the bytes that follow: no number where there are none.
-fn value_of_none(bytes: usize) -> u64 {
-    if bytes == 0 { NONE } else { 0 }
+impl From<u16> for Number {
+    fn from(number: u16) -> Number {
+        Number(u64::from(number))
+    }
+}
+
+impl From<Number> for u64 {
+    fn from(number: Number) -> u64 {
+        number.0
+    }
+}
+
+impl fmt::Display for Number {
+    fn fmt<W: fmt::Write>(&self, f: &mut fmt::Formatter<W>) -> fmt::Result {
+        let size = self.0 & (Self::SIGN - 1);
+        if self.0 == size {
+            write!(f, "{size}")
+        } else {
+            write!(f, "-{size}")
+        }
+    }
+}
+
+fn digit(b: u8) -> Option<u64> {
+    match b {
+        b'0'..=b'9' => Some(u64::from(b - b'0')),
+        _ => None,
+    }
 }
 
 // A number without a sign, of 64 bits.
-fn value(text: &[u8]) -> u64 {
-    let mut value = value_of_none(text.len());
-    let mut i = 0;
-    while i < text.len() {
-        value = value_on(value, text[i]);
-        i += 1;
+fn natural(text: &[u8]) -> Option<u64> {
+    if text.is_empty() {
+        return None;
     }
-    value
+    let mut value: u64 = 0;
+    for b in text {
+        value = value.checked_mul(10)?.checked_add(digit(*b)?)?;
+    }
+    Some(value)
 }
 
 // A number with a sign or without.
-pub fn number(text: &[u8]) -> u64 {
-    if byte_at(text, 0) != b'-' {
-        return value(text);
+pub fn whole(text: &[u8]) -> Option<Number> {
+    match text {
+        [b'-', size @ ..] => Number::below_zero(natural(size)?),
+        _ => Some(Number(natural(text)?)),
     }
-    let size = value(stretch(text, 1, text.len()));
-    if size < BELOW { BELOW + size } else { NONE }
-}
-
-// The number in a list's place.
-pub fn item(list: &[u8], i: usize) -> u64 {
-    number(word(list, i, b','))
-}
-
-// One more where it is so; nothing is counted that far.
-pub fn plus_if(so: bool, count: usize) -> usize {
-    if so {
-        if count < 1_000_000 {
-            return count + 1;
-        }
-    }
-    count
-}
-
-// How many marks a text has.
-pub fn marks(text: &[u8], mark: u8) -> usize {
-    let mut count = 0;
-    let mut i = 0;
-    while i < text.len() {
-        count = plus_if(text[i] == mark, count);
-        i += 1;
-    }
-    count
 }
 
 // How many numbers a list has; none where it is a dash alone, or not there.
 pub fn items(list: &[u8]) -> usize {
-    if list.is_empty() || list == b"-".as_slice() {
-        return 0;
+    match list {
+        [] | [b'-'] => 0,
+        _ => list.split(|b| *b == b',').count(),
     }
-    plus_if(true, marks(list, b','))
+}
+
+// The first numbers of a list, each as what is wanted of it, and past its end what stands there else.
+pub fn list_in<T: Copy, const N: usize, F: Fn(Option<Number>) -> T>(
+    list: &[u8],
+    beyond: T,
+    wanted: F,
+) -> [T; N]
+    requires { F.IsAlwaysCallable wanted }
+{
+    let mut all = [beyond; N];
+    let texts = list.split(|b| *b == b',').take(items(list));
+    for (cell, text) in all.iter_mut().zip(texts) {
+        *cell = wanted(whole(text));
+    }
+    all
+}
+
+// A number as a natural one; where there is none, the largest, which no call takes.
+pub fn as_natural(number: Option<Number>) -> u64 {
+    number.map_or(u64::MAX, u64::from)
 }
 
 // A small number; one that is not small is told as the largest.
-pub fn small(number: u64) -> u8 {
-    if number < 256 { number as u8 } else { 255 }
+pub fn small(number: Option<Number>) -> u8 {
+    u8::try_from(as_natural(number)).unwrap_or(u8::MAX)
 }
 
-// What is read where there is no number of 32 bits: no question that is accepted has it.
-const NO_SIGNED: i32 = 2_147_483_647;
-
-fn negated(size: u64) -> i32 {
-    if size <= 2_147_483_647 {
-        return 0 - size as i32;
-    }
-    if size == 2_147_483_648 {
-        -2_147_483_648
-    } else {
-        NO_SIGNED
-    }
-}
-
-// A number of 32 bits.
-pub fn signed(number: u64) -> i32 {
-    if number <= 2_147_483_647 {
-        return number as i32;
-    }
-    if number < BELOW {
-        NO_SIGNED
-    } else {
-        negated(number - BELOW)
-    }
+// A number of 32 bits; where there is none, the largest, which no question that is accepted has.
+pub fn signed(number: Option<Number>) -> i32 {
+    let Some(Number(known)) = number else {
+        return i32::MAX;
+    };
+    let size = i64::try_from(known & (Number::SIGN - 1)).unwrap_or(i64::MAX);
+    let whole = if known < Number::SIGN { size } else { -size };
+    i32::try_from(whole).unwrap_or(i32::MAX)
 }
 
 // A hexadecimal digit's worth.
-fn nibble(b: u8) -> u8
-    ensures { result ≤ 15 }
-{
-    (b % 16 + b / 64 * 9) % 16
-}
-
-fn is_nibble(b: u8) -> bool {
-    ((48 <= b) & (b <= 57)) | ((97 <= b) & (b <= 102))
-}
-
-// Whether a text is of bytes in hexadecimal, and not too many.
-pub fn is_hex(text: &[u8]) -> bool {
-    let mut so = (text.len() % 2 == 0) & (text.len() / 2 <= BYTES);
-    let mut i = 0;
-    while i < text.len() {
-        so = so & is_nibble(byte_at(text, i));
-        i += 1;
+fn nibble(b: u8) -> Option<u8> {
+    match b {
+        b'0'..=b'9' => Some(b - b'0'),
+        b'a'..=b'f' => Some(b - b'a' + 10),
+        _ => None,
     }
-    so
 }
 
-// The byte in a place of a text in hexadecimal.
-fn hex_at(text: &[u8], i: usize) -> u8
-    requires { i ≤ 4400 }
-{
-    16 * nibble(byte_at(text, 2 * i)) + nibble(byte_at(text, 2 * i + 1))
-}
-
-// The bytes of a text in hexadecimal, at the front of marks.
-pub fn bytes_in(text: &[u8]) -> [u8; BYTES] {
-    let mut bytes = [BYTE_MARK; BYTES];
-    let n = text.len() / 2;
-    let mut i = 0;
-    while i < BYTES && i < n {
-        bytes[i] = hex_at(text, i);
-        i += 1;
+// The bytes of a text in hexadecimal, in the room lent for them; none where it is of no bytes, or of too many.
+pub fn bytes_in<'a>(text: &[u8], room: &'a mut [u8; BYTES]) -> Option<&'a [u8]> {
+    let (pairs, odd) = text.as_chunks::<2>();
+    let n = pairs.len();
+    if !odd.is_empty() || BYTES < n {
+        return None;
     }
-    bytes
+    for (byte, [high, low]) in room.iter_mut().zip(pairs) {
+        *byte = nibble(*high)? << 4 | nibble(*low)?;
+    }
+    Some(&room[..n])
 }

@@ -1,38 +1,30 @@
 // spell N VARIABLE LETTERS = value V | refused NUMBER PLACE
-use crate::numbers::{item, items, small};
-use crate::parts::{is_refused, is_said, outcome, part, part_number};
-use compared::buffers::{BYTE_MARK, stretch};
-use scope::SpellAnswer;
+use crate::numbers::{items, list_in, small};
+use crate::parts::{is_refused, is_said, natural_part, outcome, part, size_part};
+use compared::buffers::{BYTE_MARK, first};
+use scope::Refusal;
 
 // The most letters in a line.
 pub const LETTERS: usize = 1_024;
 
 // The letters of a list, at the front of marks.
 pub fn letters_in(list: &[u8]) -> [u8; LETTERS] {
-    let mut letters = [BYTE_MARK; LETTERS];
-    let n = items(list);
-    let mut i = 0;
-    while i < LETTERS && i < n {
-        letters[i] = small(item(list, i));
-        i += 1;
-    }
-    letters
+    list_in(list, BYTE_MARK, small)
 }
 
-fn answered(told: &[u8], answer: SpellAnswer) -> bool {
+fn answered(told: &[u8], answer: Result<u64, Refusal>) -> bool {
     match answer {
-        SpellAnswer::Value(value) => is_said(told, b"value", 2) & (part_number(told, 1) == value),
-        SpellAnswer::Refused(refusal) => is_refused(told, refusal),
+        Ok(value) => is_said(told, "value", 2) && natural_part(told, 1) == value,
+        Err(refusal) => is_refused(told, refusal),
     }
 }
 
 pub fn spell_right(line: &[u8]) -> bool {
-    let n = part_number(line, 1) as usize;
-    let variable = part_number(line, 2) as usize;
     let list = part(line, 3);
     let letters = letters_in(list);
+    let word = first(&letters, items(list));
     answered(
         outcome(line, 4),
-        words::spell(n, variable, stretch(&letters, 0, items(list))),
+        words::spell(size_part(line, 1), size_part(line, 2), word),
     )
 }

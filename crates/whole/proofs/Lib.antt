@@ -1,1 +1,1 @@
-pub mod TwosComplement
+pub mod Stored

@@ -2,14 +2,15 @@
 #![tactic(auto)]
 
 ghost use Rattle.std.specs.Prelude.{◌≡◌, cond, ◌&&◌, ℕ, ◌+◌, ◌%◌, ◌≤◌, ◌<◌, length, leb, ltb, eqb};
-ghost use Rattle.scope.specs.Whole.{all, all_from};
+ghost use Rattle.std.specs.List.{list_all};
+ghost use Rattle.scope.specs.Whole.{all_from};
 ghost use Rattle.scope.specs.Words.{value, spelt};
 ghost use Rattle.scope.specs.Building.{table_width};
 ghost use Rattle.scope.specs.Running.{cell_fits, table_fits, says_yes, ran};
 ghost use Rattle.scope.specs.Sizes.{most_spelled, most_variables};
 ghost use Rattle.words.specs.Tables.{TableRuns};
 
-use scope::{Question, Refusal, SpellAnswer, TruthAnswer, letters};
+use scope::{Question, Refusal, Rule, letters};
 
 // The most letters of a word that is spelled out: its value fits 64 bits.
 const SPELLED: usize = 64;
@@ -18,22 +19,14 @@ const SPELLED: usize = 64;
 fn within(number: usize, most: usize) -> bool
     ensures { result ≡ leb 1 number && leb number most }
 {
-    1 <= number && number <= most
+    (1..=most).contains(&number)
 }
 
 // Whether every letter of the word is below a number.
 fn letters_fit(limit: usize, word: &[u8]) -> bool
-    ensures { result ≡ all (λ (letter : ℕ). ltb letter limit) word.now }
+    ensures { result ≡ list_all (λ (letter : ℕ). ltb letter limit) word.now }
 {
-    let mut i = 0;
-    while i < word.len() {
-        let letter = word[i] as usize;
-        if limit <= letter {
-            return false;
-        }
-        i += 1;
-    }
-    true
+    word.iter().all(|&letter| usize::from(letter) < limit)
 }
 
 // What a word of at most 64 letters spells for the variable at index j, from its last letter on.
@@ -42,38 +35,29 @@ fn value_of(j: usize, word: &[u8]) -> u64
     ensures { result ≡ value word.now j }
 {
     let mut v: u64 = 0;
-    let mut i = word.len();
-    while 0 < i {
-        i -= 1;
-        let letter = word[i] as u64;
-        v = 2 * v + (letter >> j) % 2;
+    for i in (0..word.len()).rev() {
+        v = 2 * v + (u64::from(word[i]) >> j) % 2;
     }
     v
 }
 
-fn spell_refused(number: u8) -> SpellAnswer
-    ensures { result ≡ SpellAnswer.Refused (record { number = number; place = 0 }) }
-{
-    SpellAnswer::Refused(Refusal { number, place: 0 })
-}
-
 // What a word spells for a variable from 1 to n.
-pub fn spell(n: usize, variable: usize, word: &[u8]) -> SpellAnswer
+pub fn spell(n: usize, variable: usize, word: &[u8]) -> Result<u64, Refusal>
     ensures { result ≡ spelt n variable word.now }
 {
     if !within(n, Question::VARIABLES) {
-        return spell_refused(Refusal::BEYOND_LIMIT);
+        return Err(Rule::BeyondLimit.at(0));
     }
     if !within(variable, n) {
-        return spell_refused(Refusal::BEYOND_LIMIT);
+        return Err(Rule::BeyondLimit.at(0));
     }
     if !letters_fit(letters(n), word) {
-        return spell_refused(Refusal::LETTER);
+        return Err(Rule::Letter.at(0));
     }
     if SPELLED < word.len() {
-        return spell_refused(Refusal::VALUES);
+        return Err(Rule::Values.at(0));
     }
-    SpellAnswer::Value(value_of(variable - 1, word))
+    Ok(value_of(variable - 1, word))
 }
 
 // The cells of a table's row.
@@ -102,8 +86,7 @@ fn cell_fits(column: usize, rows: usize, cell: u16) -> bool
     if column == 0 {
         return cell <= 1;
     }
-    let next = cell as usize;
-    next < rows
+    usize::from(cell) < rows
 }
 
 // Whether every cell of a table fits.
@@ -112,13 +95,11 @@ fn cells_fit(width: usize, rows: usize, cells: &[u16]) -> bool
     ensures { result ≡ all_from (cell_fits width rows) 0 cells.now }
 {
     let mut column = 0;
-    let mut c = 0;
-    while c < cells.len() {
-        if !cell_fits(column, rows, cells[c]) {
+    for &cell in cells {
+        if !cell_fits(column, rows, cell) {
             return false;
         }
         column = column_after(column, width);
-        c += 1;
     }
     true
 }
@@ -146,36 +127,24 @@ fn says_yes(n: usize, cells: &[u16], word: &[u8]) -> bool
 {
     let width = table_width(n);
     let mut row = 0;
-    let mut i = 0;
-    while i < word.len() {
-        let letter = word[i] as usize;
-        row = cells[row * width + 1 + letter] as usize;
-        i += 1;
+    for &letter in word {
+        row = usize::from(cells[row * width + 1 + usize::from(letter)]);
     }
     cells[row * width] == 1
 }
 
-fn run_refused(number: u8) -> TruthAnswer
-    ensures { result ≡ TruthAnswer.Refused (record { number = number; place = 0 }) }
-{
-    TruthAnswer::Refused(Refusal { number, place: 0 })
-}
-
 // What a table says of a word: yes where the row that it leads to accepts.
-pub fn run(n: usize, cells: &[u16], word: &[u8]) -> TruthAnswer
+pub fn run(n: usize, cells: &[u16], word: &[u8]) -> Result<bool, Refusal>
     ensures { result ≡ ran n cells.now word.now }
 {
     if !within(n, Question::VARIABLES) {
-        return run_refused(Refusal::BEYOND_LIMIT);
+        return Err(Rule::BeyondLimit.at(0));
     }
     if !table_fits(n, cells) {
-        return run_refused(Refusal::TABLE);
+        return Err(Rule::Table.at(0));
     }
     if !letters_fit(letters(n), word) {
-        return run_refused(Refusal::LETTER);
+        return Err(Rule::Letter.at(0));
     }
-    if says_yes(n, cells, word) {
-        return TruthAnswer::Yes;
-    }
-    TruthAnswer::No
+    Ok(says_yes(n, cells, word))
 }

@@ -13,7 +13,6 @@ use Rattle.scope.specs.Question.{Node, is_atom, coefficients_of, constant_of}
 use Rattle.scope.specs.Wire.{end_kind, kind_of, body_length}
 use Rattle.scope.specs.Writing.{two_bytes, record_bytes, atom_body, node_bytes}
 use Rattle.theory.specs.Wire.Records.{body_length_lem}
-use Rattle.fields.specs.Fields.{bare_question}
 use Rattle.writing.specs.Writes.{code_node, atoms_to, bytes_to}
 use Rattle.writing.proofs.Lengths.{row_length, bytes_head, bytes_next, atoms_first, atoms_next}
 use Rattle.fields.proofs.Stores.{sets_append}
@@ -33,11 +32,6 @@ module _ (q : Question) (x : Node) (a at : ℕ) (buf one : List ℕ) (kind len :
       g ∙ ap (λ (o : List ℕ). sets o (at + 4) body) f ∙ sym (sets_append buf at (two_bytes len ++ two_bytes kind) body)
       ∙ (λ i. sets buf at (two_bytes (l i) ++ (two_bytes (k i) ++ body)))
       ∙ rw e
-
--- the codes have no part in it
-pub bytes_alone : (q : Question) (n : ℕ) (x : Node) (a : ℕ) → n ≡ q.n → node_bytes (bare_question n q.coefficients q.constants) x a ≡ node_bytes q x a
-unfolding node_bytes coefficients_of constant_of
-bytes_alone q n x a e = rw e
 
 -- of an atom, the length is that of the body
 pub body_is : (q : Question) (x : Node) (a len : ℕ) → length q.coefficients ≡ most_variables * most_atoms → q.n ≤ most_variables → a < most_atoms → is_atom x ≡ true → len ≡ body_length q.n x
@@ -110,13 +104,13 @@ nodes_start q nodes buf =
 module _ {q : Question} {nodes : ℕ} {buf₀ buf : List ℕ} {at atoms i : ℕ} (inv : NodesLeft q nodes buf₀ buf at atoms i) where
   pub nodes_again : (h : i < nodes) (after : List ℕ) (len atoms' : ℕ) → length after ≡ length buf → after ≡ sets buf at (node_bytes q (code_node q i) atoms)
       → length (node_bytes q (code_node q i) atoms) ≡ 4 + len → atoms' ≡ atoms + cond (is_atom (code_node q i)) 1 0
-      → NodesLeft q nodes buf₀ after (at + 4 + len) atoms' (i + 1)
+      → NodesLeft q nodes buf₀ after (at + (4 + len)) atoms' (i + 1)
   unfolding nodes_from
   nodes_again h after len atoms' s f l a =
       let x = node_bytes q (code_node q i) (atoms_to q i) in
       let m = nodes - (i + 1) in
       let z : nodes - i ≡ suc m = omega arith in
-      let y : at + 4 + len ≡ at + length (node_bytes q (code_node q i) atoms) = omega (arith, l) in
+      let y : at + (4 + len) ≡ at + length (node_bytes q (code_node q i) atoms) = omega (arith, l) in
       let e : nodes_from q i (nodes - i) ≡ x ++ nodes_from q (i + 1) m = rw (z, add-one i) in
       let v : node_bytes q (code_node q i) atoms ≡ x = ap (node_bytes q (code_node q i)) inv.atoms_is in
       record {

@@ -1,24 +1,23 @@
 // A held question's bytes, put into a buffer record by record.
-ghost use Rattle.std.specs.Prelude.{◌≡◌, cond, [], ◌∷◌, ◌++◌, ◌+◌, ◌*◌, ◌≤◌, ◌<◌, length};
+ghost use Rattle.std.specs.Prelude.{◌≡◌, cond, [], ◌∷◌, ◌++◌, ◌+◌, ◌*◌, ◌≤◌, length};
 ghost use Rattle.std.proofs.lemmas.List.Edits.{sets};
 ghost use Rattle.scope.specs.Sizes.{most_variables, most_nodes};
 ghost use Rattle.scope.specs.Question.{node_of, is_atom};
 ghost use Rattle.scope.specs.Wire.{head_kind, end_kind, kind_of};
 ghost use Rattle.scope.specs.Writing.{two_bytes, record_bytes, node_bytes};
-ghost use Rattle.records.specs.Parts.{held_question};
-ghost use Rattle.fields.specs.Fields.{bare_question};
 ghost use Rattle.writing.specs.Writes.{bytes_to, NodeRoom, QuestionRoom};
 
 use fields::put_atom;
-use records::{body_length, count_of};
-use scope::is_atom;
+use records::body_length;
+use scope::{Question, is_atom};
 
 pub fn put_two(bytes: &mut [u8], at: usize, two: u16)
     requires { at + 2 ≤ length bytes.old }
     ensures { bytes.new ≡ sets bytes.old at (two_bytes two) }
 {
-    bytes[at] = (two % 256) as u8;
-    bytes[at + 1] = (two / 256 % 256) as u8;
+    let [low, high] = two.to_le_bytes();
+    bytes[at] = low;
+    bytes[at + 1] = high;
 }
 
 pub fn put_header(bytes: &mut [u8], at: usize, kind: u16, len: u16)
@@ -57,23 +56,15 @@ fn narrow(len: usize) -> u16
     len as u16
 }
 
-pub fn put_node(
-    n: usize,
-    coefficients: &[i32],
-    constants: &[i32],
-    code: u8,
-    atom: usize,
-    bytes: &mut [u8],
-    at: usize,
-)
-    requires { NodeRoom (bare_question n coefficients.now constants.now) code atom bytes.old at }
-    ensures { bytes.new ≡ sets bytes.old at (node_bytes (bare_question n coefficients.now constants.now) (node_of code) atom) }
+pub fn put_node(question: &Question, code: u8, atom: usize, bytes: &mut [u8], at: usize)
+    requires { NodeRoom question.now code atom bytes.old at }
+    ensures { bytes.new ≡ sets bytes.old at (node_bytes question.now (node_of code) atom) }
 {
     let kind = kind_of_code(code);
-    let len = narrow(body_length(n, code));
+    let len = narrow(body_length(usize::from(question.n), code));
     put_header(bytes, at, kind, len);
     if is_atom(code) {
-        put_atom(n, coefficients, constants, atom, bytes, at + 4);
+        put_atom(question, atom, bytes, at + 4);
     }
 }
 
@@ -81,31 +72,22 @@ pub fn counted(atoms: usize, code: u8) -> usize
     requires { atoms ≤ most_nodes }
     ensures { result ≡ atoms + cond (is_atom (node_of code)) 1 0 }
 {
-    if is_atom(code) { atoms + 1 } else { atoms }
+    atoms + usize::from(is_atom(code))
 }
 
-pub fn put_question(
-    n: u8,
-    codes: &[u8],
-    coefficients: &[i32],
-    constants: &[i32],
-    nodes: usize,
-    bytes: &mut [u8],
-)
-    requires { QuestionRoom (held_question n codes.now coefficients.now constants.now) nodes bytes.old }
-    ensures { bytes.new ≡ sets bytes.old 0 (bytes_to (held_question n codes.now coefficients.now constants.now) nodes ++ record_bytes end_kind []) }
+pub fn put_question(question: &Question, nodes: usize, bytes: &mut [u8])
+    requires { QuestionRoom question.now nodes bytes.old }
+    ensures { bytes.new ≡ sets bytes.old 0 (bytes_to question.now nodes ++ record_bytes end_kind []) }
 {
-    let count = count_of(n);
-    put_head(bytes, n);
+    let n = usize::from(question.n);
+    put_head(bytes, question.n);
     let mut at = 5;
     let mut atoms = 0;
-    let mut i = 0;
-    while i < nodes {
-        let code = codes[i];
-        put_node(count, coefficients, constants, code, atoms, bytes, at);
-        at = at + 4 + body_length(count, code);
+    for i in 0..nodes {
+        let code = question.codes[i];
+        put_node(question, code, atoms, bytes, at);
+        at += 4 + body_length(n, code);
         atoms = counted(atoms, code);
-        i += 1;
     }
     put_header(bytes, at, 0x00FF, 0);
 }

@@ -14,13 +14,13 @@ pub room-rows-requires : goal.room-rows-requires
 room-rows-requires c = (rw c.kinds_of-atoms.ensures.1 (some_atoms c.requires), omega arith)
 
 -- the rows lent
-lent : (c : goal.After-room-rows) → c.room-rows.result ≡ build_room c.args.question c.args.keys.now c.args.table.now
+lent : (c : goal.After-room-rows) → c.room-rows.result ≡ build_room c.args.question.now c.args.keys.now c.args.table.now
 lent c =
-    room_is c.args.question c.kinds_of-atoms.result.m c.letters-count.result c.room-rows.result c.args.keys.now c.args.table.now c.kinds_of-atoms.ensures.1 c.letters-count.ensures.0 c.room-rows.ensures
+    room_is c.args.question.now c.kinds_of-atoms.result.m c.letters-count.result c.room-rows.result c.args.keys.now c.args.table.now c.kinds_of-atoms.ensures.1 (rw c.from.ensures at c.letters-count.ensures.0) c.room-rows.ensures
 
 pub returns-then-rows-eq0 : goal.returns-then-rows-eq0
 returns-then-rows-eq0 c =
-    nothing_built c.args.question c.args.keys.now c.args.table.now (sym c.if-rows-eq0.true ∙ lent (goal.at.returns-then-rows-eq0 c).After-room-rows)
+    nothing_built c.args.question.now c.args.keys.now c.args.table.now (sym c.if-rows-eq0.true ∙ lent (goal.at.returns-then-rows-eq0 c).After-room-rows)
 
 pub build_rows-requires : goal.build_rows-requires
 build_rows-requires c =

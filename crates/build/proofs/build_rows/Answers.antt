@@ -4,10 +4,10 @@ use Rattle.build.specs.Asked.{asks_sums, asks_plan, asks_start, asks_filling, qu
 use Rattle.build.proofs.build_rows.Goals as goal
 
 pub letter_sums-sums-requires : goal.letter_sums-sums-requires
-letter_sums-sums-requires c = asks_sums c.requires
+letter_sums-sums-requires c = rw c.from.ensures (asks_sums c.requires)
 
 pub plan_of-plan-requires : goal.plan_of-plan-requires
-plan_of-plan-requires c = asks_plan c.requires c.letter_sums-sums.ensures (search rules)
+plan_of-plan-requires c = asks_plan c.requires (rw c.from.ensures at c.letter_sums-sums.ensures) (search rules)
 
 pub store_row-requires : goal.store_row-requires
 store_row-requires c = asks_start c.requires c.plan_of-plan.ensures

@@ -3,45 +3,61 @@ use mathlib.Core.List.{[], ◌∷◌}
 use Prim.Native.Nat.{ℕ, ◌≤◌}
 use native.Mathlib.Omega.{arith}
 use Rattle.plan.specs.Moves.{with_rows}
-use Rattle.build.specs.Filling.{Filling, FilledFrom, any_path, few_filling, few_built, many_filling, many_stands, many_built}
+use Rattle.explore.specs.Stages.{none_linked}
+use Rattle.build.specs.Filling.{Filling, FilledFrom, any_path, from_start, few_filling, few_built, many_filling, many_stands, many_built}
 use Rattle.build.proofs.fill.Goals as goal
-use Rattle.build.proofs.fill.Goals.{After-fill_few-s, Start}
+use Rattle.build.proofs.fill.Goals.{After-fill_from-ended, Start}
 
 -- what is handed over, with the path area that building does not look at
 filling : (s : goal.Start) → Filling s.args.plan s.args.sums.now s.args.keys.now (0 ∷ []) s.args.table.now
 filling s = any_path s.requires (0 ∷ [])
 
-pub fill_few-s-requires : goal.fill_few-s-requires
-fill_few-s-requires c =
-    let least = c.least-few.ensures in
-    let given = filling (goal.at.fill_few-s-requires c).Start in
-    rw c.with_rows.ensures
-    (record { filling = few_filling given (omega (arith, least)) (omega (arith, least, given.ready.some_rows)); rows_bound = omega (arith, least) })
+pub fill_from-ended-requires : goal.fill_from-ended-requires
+fill_from-ended-requires c =
+    let least = c.min-few.ensures in
+    let given = filling (goal.at.fill_from-ended-requires c).Start in
+    let fewer : Filling (with_rows c.args.plan c.min-few.result) c.args.sums.now c.args.keys.now (0 ∷ []) c.args.table.now =
+    few_filling given (omega (arith, least)) (omega (arith, least, given.ready.some_rows)) in
+    rw (c.with_rows-fewer.ensures, c.going-start.ensures)
+    (record {
+      filling = fewer;
+      stands = from_start fewer;
+      linked = none_linked (with_rows c.args.plan c.min-few.result) c.args.keys.now 512 given.task.narrow (omega arith) (omega arith) (omega (arith, least));
+    })
 
 -- ---- few rows are filled
-module _ (c : goal.After-fill_few-s) where
+module _ (c : goal.After-fill_from-ended) where
   abbrev few : ℕ
-  few = c.least-few.result
+  few = c.min-few.result
 
   fewer : few ≤ c.args.plan.rows
-  fewer = omega (arith, c.least-few.ensures)
+  fewer = omega (arith, c.min-few.ensures)
 
-  filled : FilledFrom (with_rows c.args.plan few) c.args.sums.now 1 c.args.keys.now (0 ∷ []) c.args.table.now c.fill_few-s.new.keys c.fill_few-s.new.path c.fill_few-s.new.table c.fill_few-s.result
-  filled = rw c.with_rows.ensures at c.fill_few-s.ensures
+  filled : FilledFrom (with_rows c.args.plan few) c.args.sums.now 1 c.args.keys.now (0 ∷ []) c.args.table.now c.fill_from-ended.new.keys c.fill_from-ended.new.path c.fill_from-ended.new.table c.fill_from-ended.result
+  filled = rw (c.with_rows-fewer.ensures, c.going-start.ensures) at c.fill_from-ended.ensures
 
-pub fill_many-t-requires : goal.fill_many-t-requires
-fill_many-t-requires c =
-    let y = c.lacks.ensures.yes c.if-lacks.true in
-    let same = c.fill_few-s.auto.keys in
-    record { filling = many_filling (filling (goal.at.fill_many-t-requires c).Start) (fewer (goal.at.fill_many-t-requires c).After-fill_few-s) (filled (goal.at.fill_many-t-requires c).After-fill_few-s) same y.0 y.1; stands = many_stands (filling (goal.at.fill_many-t-requires c).Start) (fewer (goal.at.fill_many-t-requires c).After-fill_few-s) (filled (goal.at.fill_many-t-requires c).After-fill_few-s) same y.0 y.1 }
+pub fill_from-requires : goal.fill_from-requires
+fill_from-requires c =
+    let y = c.in-Some.ensures.says in
+    let same = c.fill_from-ended.auto.keys in
+    let at = goal.at.fill_from-requires c in
+    let given = filling at.Start in
+    let less = fewer at.After-fill_from-ended in
+    let few = filled at.After-fill_from-ended in
+    record {
+      filling = many_filling given less few same y.0;
+      stands = many_stands given less few same y.0;
+      linked = none_linked c.args.plan _ 131072 given.task.narrow (omega arith) (omega arith) (omega (arith, given.ready.lent.few_rows));
+    }
 
-pub returns-then-lacks : goal.returns-then-lacks
-returns-then-lacks c =
-    let y = c.lacks.ensures.yes c.if-lacks.true in
+pub returns-in-Some : goal.returns-in-Some
+returns-in-Some c =
+    let y = c.in-Some.ensures.says in
+    let at = goal.at.returns-in-Some c in
     rw c.answer.ensures
-    (many_built (filling (goal.at.returns-then-lacks c).Start) (fewer (goal.at.returns-then-lacks c).After-fill_few-s) (filled (goal.at.returns-then-lacks c).After-fill_few-s) c.fill_few-s.auto.keys y.0 y.1 c.fill_many-t.ensures c.fill_many-t.auto.keys)
+    (many_built (filling at.Start) (fewer at.After-fill_from-ended) (filled at.After-fill_from-ended) c.fill_from-ended.auto.keys y.0 c.fill_from.ensures c.fill_from.auto.keys)
 
 pub returns : goal.returns
 returns c =
     rw c.answer-2.ensures
-    (few_built (filling (goal.at.returns c).Start) (fewer (goal.at.returns c).After-fill_few-s) (filled (goal.at.returns c).After-fill_few-s) c.fill_few-s.auto.keys (c.lacks.ensures.no c.if-lacks.false))
+    (few_built (filling (goal.at.returns c).Start) (fewer (goal.at.returns c).After-fill_from-ended) (filled (goal.at.returns c).After-fill_from-ended) c.fill_from-ended.auto.keys (c.in_default.ensures.says))

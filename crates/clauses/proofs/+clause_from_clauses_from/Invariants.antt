@@ -11,9 +11,9 @@ decreases-clause_from l = l.nesting + l.nesting
 abbrev pub decreases-clauses_from : goal.decreases-clauses_from
 decreases-clauses_from l = l.nesting + l.nesting + 1
 
-abbrev pub invariant-clauses_from-loop-all : goal.invariant-clauses_from-loop-all
-invariant-clauses_from-loop-all l =
+abbrev pub invariant-clauses_from-loop-found : goal.invariant-clauses_from-loop-found
+invariant-clauses_from-loop-found l =
     (l.at + l.number ≤ l.next) × ((l.next ≤ length l.text) × ClausesSofar l.text l.at (most_nesting - l.nesting) (names_in l.text l.names l.count) l.fault l.number l.next)
 
-abbrev pub decreases-clauses_from-loop-all : goal.decreases-clauses_from-loop-all
-decreases-clauses_from-loop-all l = length l.text - l.next
+abbrev pub decreases-clauses_from-loop-found : goal.decreases-clauses_from-loop-found
+decreases-clauses_from-loop-found l = length l.text - l.next

@@ -1,10 +1,12 @@
 -- `clauses::takes_parts` meets its contract. Assumes nothing.
 use mathlib.Core.Path.{refl}
-use borrow.Author.Tests.{eq-eqb, ne_eqb}
+use borrow.Author.Tests.{ne_eqb}
+use Rattle.terms.specs.declared.heads.HeadWord.{HeadWord}
+use Rattle.terms.specs.Heads.{word_code, same_word}
 use Rattle.clauses.proofs.takes_parts.Goals as goal
 
-pub returns-then-head-eq-NOT : goal.returns-then-head-eq-NOT
-returns-then-head-eq-NOT c = rw (eq-eqb _ 8 c.if-head-eq-NOT.true) refl
+pub returns-in-Not : goal.returns-in-Not
+returns-in-Not c = rw c.in-Not.is refl
 
-pub returns : goal.returns
-returns c = rw (ne_eqb _ 8 c.if-head-eq-NOT.false) refl
+pub returns-in_default : goal.returns-in_default
+returns-in_default c = rw (ne_eqb (word_code c.args.head) 8 (λ e. c.in_default.not-Not (same_word c.args.head HeadWord.Not e))) refl

@@ -1,16 +1,16 @@
 -- `decide::decide` meets its contract, by whether the bytes are accepted.
+use Rattle.std.proofs.Common.{sym}
+use Rattle.std.proofs.lemmas.Result.{err_from_is_err_and}
 use Rattle.decide.specs.Decides.{decides_refused, within_limits_lem, decides_accepted}
 use Rattle.decide.proofs.decide.Goals as goal
 
-pub returns-in-Refused : goal.returns-in-Refused
-returns-in-Refused c =
-    decides_refused c.args.bytes.now c.read-held.result c.read-held.ensures c.args.keys.now c.args.path.now c.args.word.now _ c.in-Refused.is
+pub returns-in_err-question : goal.returns-in_err-question
+returns-in_err-question c =
+    let p = err_from_is_err_and c.from_residual.result c.from_residual.ensures.1 in
+    rw (p.1, p.2) (decides_refused c.args.bytes.now c.args.keys.now c.args.path.now c.args.word.now _ (sym c.in_err-question.ensures))
 
 pub decide_question-requires : goal.decide_question-requires
-decide_question-requires c =
-    within_limits_lem c.args.bytes.now c.read-held.result c.read-held.ensures c.args.keys.now c.args.path.now c.args.word.now c.in_default.is
+decide_question-requires c = within_limits_lem c.args.bytes.now c.args.keys.now c.args.path.now c.args.word.now _ (sym c.in_ok-question.ensures)
 
 pub returns : goal.returns
-returns c =
-    decides_accepted c.args.bytes.now c.read-held.result c.read-held.ensures c.args.keys.now c.args.path.now c.args.word.now c.in_default.is
-    c.decide_question.ensures
+returns c = decides_accepted c.args.bytes.now c.args.keys.now c.args.path.now c.args.word.now _ (sym c.in_ok-question.ensures) c.decide_question.ensures

@@ -10,10 +10,10 @@ use Rattle.decide.proofs.decide_rows.Goals as goal
 use Rattle.decide.proofs.decide_rows.Goals.{After-number_rows-explored, Else-accepts}
 
 pub letter_sums-sums-requires : goal.letter_sums-sums-requires
-letter_sums-sums-requires c = sums_asked c.requires
+letter_sums-sums-requires c = rw c.from.ensures (sums_asked c.requires)
 
 pub plan_of-plan-requires : goal.plan_of-plan-requires
-plan_of-plan-requires c = asks_plan c.requires c.letter_sums-sums.ensures (search rules)
+plan_of-plan-requires c = asks_plan c.requires (rw c.from.ensures at c.letter_sums-sums.ensures) (search rules)
 
 pub put_start-requires : goal.put_start-requires
 put_start-requires c = asks_start c.requires c.plan_of-plan.ensures
@@ -24,7 +24,7 @@ returns-then-accepts c =
     decides_start c.requires (start_put c.requires made c.put_start.ensures) (start_accepts c.requires made c.accepts.ensures c.if-accepts.true)
 
 -- ---- where the start does not accept
-refused : (c : goal.Else-accepts) → let q = c.args.question in (machine_of q).accepts (machine_of q).start ≡ false
+refused : (c : goal.Else-accepts) → let q = c.args.question.now in (machine_of q).accepts (machine_of q).start ≡ false
 refused c = start_accepts c.requires c.plan_of-plan.ensures c.accepts.ensures c.if-accepts.false
 
 pub number_rows-explored-requires : goal.number_rows-explored-requires
@@ -34,8 +34,8 @@ number_rows-explored-requires c =
     record { task = task c.requires made put; ready = ready c.requires made put (refused (goal.at.number_rows-explored-requires c).Else-accepts) }
 
 explored : (c : goal.After-number_rows-explored)
-    → (machine_of c.args.question).accepts (machine_of c.args.question).start ≡ false
-    → Explores c.args.question c.args.rows c.args.keys.now c.args.path.now c.number_rows-explored.new.keys c.number_rows-explored.new.path c.number_rows-explored.result
+    → (machine_of c.args.question.now).accepts (machine_of c.args.question.now).start ≡ false
+    → Explores c.args.question.now c.args.rows c.args.keys.now c.args.path.now c.number_rows-explored.new.keys c.number_rows-explored.new.path c.number_rows-explored.result
 explored c start =
     let made = c.plan_of-plan.ensures in
     let put = c.put_start.ensures in

@@ -4,7 +4,7 @@ use native.Mathlib.Omega.{arith}
 use mathlib.Core.List.{List}
 use lib.ListN.{take}
 use lib.IntN.{ℤ}
-use mathlib.Core.Path.{refl}
+use mathlib.Core.Path.{refl, sym, ◌∙◌}
 use Rattle.step.specs.Cells.{step_cells}
 use Rattle.index.specs.Index.{Finds}
 use Rattle.plan.specs.Machine.{machine, Runs, machine_runs}
@@ -39,13 +39,13 @@ finds c = rw c.step_row-key.ensures at c.find.ensures
 pub after-requires : goal.after-requires
 after-requires c = (letter_ok (goal.at.after-requires c).Start, c.requires.task.few_letters, c.requires.task.bits.below, few_rows (goal.at.after-requires c).Start)
 
-pub returns-then-find-s : goal.returns-then-find-s
-returns-then-find-s c =
-    record { tried = tried_old (start_runs (goal.at.returns-then-find-s c).Start) c.requires.task c.requires.stands c.requires.row_of.below c.requires.row_of (finds (goal.at.returns-then-find-s c).After-find) c.if-find-s.true c.requires.linked c.after.ensures; front_stays = refl }
+pub returns-then-is_some : goal.returns-then-is_some
+returns-then-is_some c =
+    record { tried = tried_old (start_runs (goal.at.returns-then-is_some c).Start) c.requires.task c.requires.stands c.requires.row_of.below c.requires.row_of (finds (goal.at.returns-then-is_some c).After-find) (sym c.is_some.ensures ∙ c.if-is_some.true) c.requires.linked c.after.ensures; front_stays = refl }
 
 pub returns-then-s-plan : goal.returns-then-s-plan
 returns-then-s-plan c =
-    record { tried = tried_full (start_runs (goal.at.returns-then-s-plan c).Start) c.requires.task c.requires.stands c.requires.row_of.below c.requires.row_of (finds (goal.at.returns-then-s-plan c).After-find) c.if-find-s.false c.if-s-plan.true c.ending.ensures; front_stays = refl }
+    record { tried = tried_full (start_runs (goal.at.returns-then-s-plan c).Start) c.requires.task c.requires.stands c.requires.row_of.below c.requires.row_of (finds (goal.at.returns-then-s-plan c).After-find) (sym c.is_some.ensures ∙ c.if-is_some.false) c.if-s-plan.true; front_stays = refl }
 
 -- ---- the next row
 pub add_row-requires : goal.add_row-requires
@@ -71,7 +71,7 @@ module _ (c : goal.After-add_row) where
   front =
       let p = c.requires in
       front_stays (machine_runs c.args.plan c.args.sums.now c.args.keys.now) p.task p.stands p.row_of.below p.row_of
-      (rw c.step_row-key.ensures at c.find.ensures) c.if-find-s.false free added
+      (rw c.step_row-key.ensures at c.find.ensures) (sym c.is_some.ensures ∙ c.if-is_some.false) free added
 
 pub returns-then-add_row : goal.returns-then-add_row
 returns-then-add_row c =
@@ -79,8 +79,9 @@ returns-then-add_row c =
     let at = goal.at.returns-then-add_row c in
     record {
       tried =
-          tried_found (start_runs at.Start) p.task p.stands p.row_of.below p.row_of (finds at.After-find) c.if-find-s.false (free at.After-add_row)
-          (added at.After-add_row) c.if-add_row.true c.ending-then-add_row.ensures;
+          rw c.going.ensures
+          (tried_found (start_runs at.Start) p.task p.stands p.row_of.below p.row_of (finds at.After-find) (sym c.is_some.ensures ∙ c.if-is_some.false) (free at.After-add_row)
+          (added at.After-add_row) c.if-add_row.true);
       front_stays = front at.After-add_row;
     }
 
@@ -98,7 +99,7 @@ returns c =
     let new = added at.After-add_row in
     record {
       tried =
-          tried_new (start_runs at.Start) p.task p.stands p.row_of.below p.row_of (finds at.After-find) c.if-find-s.false (free at.After-add_row) new
+          tried_new (start_runs at.Start) p.task p.stands p.row_of.below p.row_of (finds at.After-find) (sym c.is_some.ensures ∙ c.if-is_some.false) (free at.After-add_row) new
           (record { few_rows = l.few_rows; keys_room = omega (arith, k.keys, l.keys_room); path_room = omega (arith, k.path, l.path_room) })
           (record { indexed = new.indexed; room = omega (arith, k.links, p.linked.room) })
           c.if-add_row.false c.after-2.ensures;

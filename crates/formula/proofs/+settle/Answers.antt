@@ -1,47 +1,36 @@
 -- `formula::settle`: a law of Nodes for each way that it returns.
-use Rattle.std.proofs.Common.{arith}
+use Rattle.std.proofs.Common.{arith, rules, ⊎_elim, get_or}
+use Rattle.formula.proofs.Words.{none_words, atom_words, both_words, either_words}
 use Rattle.formula.proofs.Nodes.{low_code, high_code, too_deep, past_the_end, settles_unused, settles_none, settles_atom, settles_not, settles_and, settles_or}
 use Rattle.formula.proofs.+settle.Goals as goal
+use Rattle.formula.proofs.+settle.Goals.{in_default-via-then-this-lt1, in_default-via-in-1+else-atom-lt-ATOMS, in_default-via-else-this-lt1+else-this-lt3}
 
 pub returns-then-depth-eq0 : goal.returns-then-depth-eq0
-returns-then-depth-eq0 t c = rw c.of.ensures (too_deep c.requires c.none.ensures c.if-depth-eq0.true)
+returns-then-depth-eq0 t c =
+    rw c.falsehood.ensures (⊎_elim (λ d. too_deep c.requires none_words d) (λ p. past_the_end c.requires none_words p.0 p.1) c.then-depth-eq0.either)
 
-pub returns-then-node-eq-NODES : goal.returns-then-node-eq-NODES
-returns-then-node-eq-NODES t c =
-    rw c.of-then-node-eq-NODES.ensures
-    (past_the_end c.requires c.none-then-node-eq-NODES.ensures c.if-depth-eq0.false c.if-node-eq-NODES.true)
+pub returns-in-1 : goal.returns-in-1
+returns-in-1 t c =
+    settles_atom c.requires (atom_words c.args.atom c.if-atom-lt-ATOMS.true) c.if-depth-eq0.false c.if-node-eq-NODES.false (omega arith) (omega arith) (omega arith)
 
-pub returns-then-code-lt1 : goal.returns-then-code-lt1
-returns-then-code-lt1 t c =
-    rw c.of-then-code-lt1.ensures
-    (settles_unused c.requires c.none-then-code-lt1.ensures c.if-depth-eq0.false c.if-node-eq-NODES.false (low_code _ c.if-code-lt1.true))
+pub returns-in-3 : goal.returns-in-3
+returns-in-3 t c =
+    settles_not c.requires c.denied-truths.ensures c.if-depth-eq0.false c.if-node-eq-NODES.false c.in-3.is c.settle-p.ensures
 
-pub returns-then-atom-eq-ATOMS : goal.returns-then-atom-eq-ATOMS
-returns-then-atom-eq-ATOMS t c =
-    rw c.of-then-atom-eq-ATOMS.ensures
-    (settles_none c.requires c.none-then-atom-eq-ATOMS.ensures c.if-depth-eq0.false c.if-node-eq-NODES.false c.if-code-lt1.false c.if-code-lt3.true c.if-atom-eq-ATOMS.true)
+pub returns-in-4 : goal.returns-in-4
+returns-in-4 t c =
+    settles_and c.requires (both_words c.settle-p-in-4.result.truths c.settle-r.result.truths c.joined-truths.ensures.four (λ i l. let h = c.joined-truths.ensures.each i l in search rules)) c.if-depth-eq0.false c.if-node-eq-NODES.false c.in-4.is c.settle-p-in-4.ensures c.settle-r.ensures
 
-pub returns-then-code-lt3 : goal.returns-then-code-lt3
-returns-then-code-lt3 t c =
-    rw c.of-then-code-lt3.ensures
-    (settles_atom c.requires c.atom_words.ensures c.if-depth-eq0.false c.if-node-eq-NODES.false c.if-code-lt1.false c.if-code-lt3.true c.if-atom-eq-ATOMS.false)
+pub returns-in-5 : goal.returns-in-5
+returns-in-5 t c =
+    settles_or c.requires (either_words c.settle-p-in-5.result.truths c.settle-r-in-5.result.truths c.joined-truths-in-5.ensures.four (λ i l. let h = c.joined-truths-in-5.ensures.each i l in search rules)) c.if-depth-eq0.false c.if-node-eq-NODES.false c.in-5.is c.settle-p-in-5.ensures c.settle-r-in-5.ensures
 
-pub returns-then-code-gt5 : goal.returns-then-code-gt5
-returns-then-code-gt5 t c =
-    rw c.of-then-code-gt5.ensures
-    (settles_unused c.requires c.none-then-code-gt5.ensures c.if-depth-eq0.false c.if-node-eq-NODES.false (high_code _ c.if-code-gt5.true))
-
-pub returns-then-code-eq3 : goal.returns-then-code-eq3
-returns-then-code-eq3 t c =
-    rw c.of-then-code-eq3.ensures
-    (settles_not c.requires c.denied.ensures c.if-depth-eq0.false c.if-node-eq-NODES.false c.if-code-eq3.true c.settle-p.ensures)
-
-pub returns-then-code-eq4 : goal.returns-then-code-eq4
-returns-then-code-eq4 t c =
-    rw c.of-then-code-eq4.ensures
-    (settles_and c.requires c.both.ensures c.if-depth-eq0.false c.if-node-eq-NODES.false c.if-code-eq4.true c.settle-p.ensures c.settle-r.ensures)
-
-pub returns : goal.returns
-returns t c =
-    rw c.of-2.ensures
-    (settles_or c.requires c.either.ensures c.if-depth-eq0.false c.if-node-eq-NODES.false (omega (arith, c.if-code-eq4.false, c.if-code-eq3.false, c.if-code-gt5.false, c.if-code-lt3.false)) c.settle-p.ensures c.settle-r.ensures)
+pub returns-in_default : goal.returns-in_default
+returns-in_default t c =
+    let code = get_or c.args.codes.now c.args.node 0 in
+    rw c.falsehood-in_default.ensures
+    (elim c.in_default.branch [
+      | in_default-via-then-this-lt1 w ↦ settles_unused c.requires none_words c.if-depth-eq0.false c.if-node-eq-NODES.false (low_code code (omega arith))
+      | in_default-via-in-1+else-atom-lt-ATOMS w ↦ settles_none c.requires none_words c.if-depth-eq0.false c.if-node-eq-NODES.false (omega arith) (omega arith) (omega (arith, c.requires.atom_within))
+      | in_default-via-else-this-lt1+else-this-lt3 w ↦ settles_unused c.requires none_words c.if-depth-eq0.false c.if-node-eq-NODES.false (high_code code (omega arith))
+    ])

@@ -6,5 +6,5 @@ use Rattle.formula.proofs.truths_of.Goals as goal
 pub returns : goal.returns
 unfolding formula_worth
 returns c =
-    let whole = c.settle-whole.ensures in
+    let whole = c.settle.ensures in
     record { four = whole.four; says = λ ws e. sym (ap (λ (s : Settled). s.truth) (whole.part ws e)) }

@@ -1,16 +1,18 @@
--- `importing::first_bounds` meets its contract. The invariant: so many cells stand at the front. Assumes nothing.
-use Prim.Native.Nat.{◌*◌}
+-- `importing::first_bounds` meets its contract. Assumes nothing.
+use Prim.Native.Nat.{ℕ, ◌*◌}
 use native.Mathlib.Omega.{arith}
-use mathlib.Core.Path.{◌≡◌}
-use Rattle.importing.proofs.NameBounds.{bounds_begun, bounds_more, bounds_done}
+use mathlib.Core.Path.{◌≡◌, sym, ap}
+use mathlib.Core.List.{List, ◌++◌}
+use lib.ListN.{length, take, drop, replicate}
+use lib.Seq.{length-take-le}
+use Rattle.scope.specs.Whole.{at_front}
+use Rattle.scope.specs.Sizes.{most_variables}
 use Rattle.importing.proofs.first_bounds.Goals as goal
 
-pub loop-i-init : goal.loop-i-init
-loop-i-init c = (omega arith, bounds_begun c.args.bounds)
-
-pub loop-i-preserved : goal.loop-i-preserved
-loop-i-preserved c =
-    (omega arith, rw c.loop-i.invariant.1 (bounds_more c.args.bounds c.loop-i.i (omega arith) (omega arith)))
-
 pub returns : goal.returns
-returns c = let i = c.loop-i-test.false in let e : c.loop-i.i ≡ 2 * c.args.count = omega arith in bounds_done _ c.loop-i.i _ _ e c.loop-i.invariant.1
+unfolding at_front
+returns c =
+    let n : ℕ = 2 * c.args.count in
+    let bounds : List ℕ = c.args.bounds in
+    let long : length (take n bounds) ≡ n = length-take-le n bounds (omega arith) in
+    rw c.copy_from_slice.ensures.after (ap (λ (k : ℕ). take n bounds ++ drop k (replicate (2 * most_variables) 0)) (sym long))

@@ -1,25 +1,24 @@
 -- `importing::import_faultless` meets its contract. Assumes nothing.
-use mathlib.Core.Path.{◌∙◌}
-use native.Mathlib.Omega.{arith}
-use Rattle.importing.proofs.ImportCases.{faultless_text, limit_given, question_given}
+use Rattle.std.proofs.lemmas.Result.{err_from_is_err_and}
+use Rattle.importing.proofs.ImportCases.{faultless_text, limit_given, few_laid, question_given}
 use Rattle.importing.proofs.import_faultless.Goals as goal
 
-pub lay_commands-laying-requires : goal.lay_commands-laying-requires
-lay_commands-laying-requires c =
+pub lay_commands-requires : goal.lay_commands-requires
+lay_commands-requires c =
     (faultless_text _ _ c.requires.0 c.requires.1.0 c.requires.1.1, c.requires.0.asserted_are)
 
-pub returns-then-laying-ne0 : goal.returns-then-laying-ne0
-returns-then-laying-ne0 c =
-    c.refused.ensures ∙ limit_given _ _ c.requires.0 c.requires.1.0 c.requires.1.1 c.lay_commands-laying.result c.lay_commands-laying.ensures.n c.lay_commands-laying.ensures.laid c.if-laying-ne0.true
-
-pub first_bounds-names-requires : goal.first_bounds-names-requires
-first_bounds-names-requires c =
+pub first_bounds-requires : goal.first_bounds-requires
+first_bounds-requires c =
     (faultless_text _ _ c.requires.0 c.requires.1.0 c.requires.1.1).few
 
 pub accepted-requires : goal.accepted-requires
-accepted-requires c =
-    omega (arith, c.lay_commands-laying.ensures.n, (faultless_text _ _ c.requires.0 c.requires.1.0 c.requires.1.1).few)
+accepted-requires c = few_laid _ _ c.requires.0 c.requires.1.0 c.requires.1.1 _ c.in_ok-laying.ensures
 
 pub returns : goal.returns
 returns c =
-    c.accepted.ensures ∙ rw c.first_bounds-names.ensures (question_given _ _ c.requires.0 c.requires.1.0 c.requires.1.1 c.lay_commands-laying.result c.lay_commands-laying.ensures.n c.lay_commands-laying.ensures.laid c.if-laying-ne0.false)
+    rw (c.accepted.ensures, c.first_bounds.ensures) (question_given _ _ c.requires.0 c.requires.1.0 c.requires.1.1 _ c.in_ok-laying.ensures)
+
+pub returns-in_err-laying : goal.returns-in_err-laying
+returns-in_err-laying c =
+    let p = err_from_is_err_and c.from_residual.result c.from_residual.ensures.1 in
+    rw (p.1, p.2) (limit_given _ _ c.requires.0 c.requires.1.0 c.requires.1.1 _ c.in_err-laying.ensures)

@@ -1,6 +1,6 @@
 use mathlib.Core.Path.{◌≡◌}
 use mathlib.Core.List.{List}
-use Prim.Native.Nat.{ℕ, ◌-◌, ◌≤◌}
+use Prim.Native.Nat.{ℕ, ◌≤◌}
 use lib.ListN.{length}
 use lib.IntN.{ℤ}
 use Rattle.index.specs.Index.{Indexed}
@@ -14,6 +14,3 @@ pub record Begun (keys : List ℤ) (width : ℕ) (links₀ : List ℕ) (count : 
 
 abbrev pub invariant-loop-row : goal.invariant-loop-row
 invariant-loop-row l = Begun l.keys l.width l.initial.links l.count l.links l.row
-
-abbrev pub decreases-loop-row : goal.decreases-loop-row
-decreases-loop-row l = l.count - l.row

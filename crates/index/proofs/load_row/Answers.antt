@@ -1,4 +1,4 @@
--- `index::load_row` meets its contract. The invariant: the key has the row's cells below i, and 0 from there on. The measure is width less i.
+-- `index::load_row` meets its contract. The invariant: the key has the row's cells below i, and 0 from there on.
 use mathlib.Core.Path.{sym, ◌∙◌}
 use Prim.Native.Nat.{◌+◌, ◌*◌}
 use native.Mathlib.Nat.{le_antisymm}

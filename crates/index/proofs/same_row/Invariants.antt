@@ -1,6 +1,6 @@
 use mathlib.Core.Path.{◌≡◌}
 use mathlib.Core.List.{List}
-use Prim.Native.Nat.{ℕ, ◌+◌, ◌-◌, ◌≤◌, ◌<◌}
+use Prim.Native.Nat.{ℕ, ◌+◌, ◌≤◌, ◌<◌}
 use lib.ListN.{get_or}
 use lib.IntN.{ℤ, pos}
 use Rattle.index.proofs.same_row.Given as goal
@@ -14,6 +14,3 @@ pub record Begun (keys : List ℤ) (width base : ℕ) (key : List ℤ) (from i :
 
 abbrev pub invariant-loop-i : goal.invariant-loop-i
 invariant-loop-i l = Begun l.keys l.width l.base l.key l.from l.i
-
-abbrev pub decreases-loop-i : goal.decreases-loop-i
-decreases-loop-i l = 4 - l.i

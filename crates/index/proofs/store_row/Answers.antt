@@ -1,4 +1,4 @@
--- `index::store_row` meets its contract. The invariant: the key's first i cells are stored. The measure is width less i.
+-- `index::store_row` meets its contract. The invariant: the key's first i cells are stored.
 use mathlib.Core.Path.{refl}
 use Prim.Native.Nat.{◌*◌}
 use native.Mathlib.Nat.{le_antisymm}

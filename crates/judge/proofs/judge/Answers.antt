@@ -1,16 +1,16 @@
--- `judge::judge` meets its contract: what was read decides. Assumes nothing.
-use mathlib.Core.Path.{sym, ◌∙◌}
+-- `judge::judge` meets its contract: what was read decides.
+use Rattle.std.proofs.Common.{sym, ◌∙◌}
+use Rattle.std.proofs.lemmas.Result.{err_from_is_err_and}
 use Rattle.judge.proofs.Judging.{judged_accepted, judged_refused, read_within}
 use Rattle.judge.proofs.judge.Goals as goal
 
 pub judge_question-requires : goal.judge_question-requires
-judge_question-requires c =
-    read_within c.args.bytes.now c.args.values.now c.read-held.result c.read-held.ensures c.in-Accepted.is
+judge_question-requires c = read_within _ _ (sym c.in_ok-question.ensures)
 
-pub returns-in-Accepted : goal.returns-in-Accepted
-returns-in-Accepted c =
-    c.judge_question.ensures ∙ sym (judged_accepted c.args.bytes.now c.args.values.now c.read-held.result c.read-held.ensures c.in-Accepted.is)
+pub returns-in_err-question : goal.returns-in_err-question
+returns-in_err-question c =
+    let p = err_from_is_err_and c.from_residual.result c.from_residual.ensures.1 in
+    rw (p.1, p.2) (sym (judged_refused _ c.args.values.now _ (sym c.in_err-question.ensures)))
 
-pub returns-in-Refused : goal.returns-in-Refused
-returns-in-Refused c =
-    sym (judged_refused c.args.bytes.now c.args.values.now c.read-held.result c.read-held.ensures c.in-Refused.refusal c.in-Refused.is)
+pub returns : goal.returns
+returns c = c.judge_question.ensures ∙ sym (judged_accepted _ c.args.values.now _ (sym c.in_ok-question.ensures))

@@ -24,4 +24,4 @@ sizes a x h = record {
 }
 
 pub returns : goal.returns
-returns c = let z = sizes c.args.a c.args.x c.requires in simp (to_z-of_z, c.ranges.a, z.wide, z.value, z.whole)
+returns c = let z = sizes c.args.a c.args.x c.requires in simp (to_z-of_z, c.from.ensures, c.ranges.a, z.wide, z.value, z.whole)

@@ -27,7 +27,7 @@ module _ (c : goal.After-product-s) where
       let n : j < length c.args.values.now = omega arith in
       let m : c.loop-j.j ≡ suc j = omega arith in
       let term : c.product-s.result ≡ get_or c.args.coefficients.now (c.args.at + j) (pos 0) *ℤ pos (get_or c.args.values.now j 0) = simp (to_z-of_z, coefficient_fits_lem p j n) at c.product-s.ensures in
-      (λ i. term i +ℤ (c.loop-j.invariant.1 ∙ ap (λ (k : ℕ). dot (drop k row) (drop k c.args.values.now)) m) i) ∙ sym (sum_more p j n)
+      (λ i. term i +ℤ (c.loop-j.invariant ∙ ap (λ (k : ℕ). dot (drop k row) (drop k c.args.values.now)) m) i) ∙ sym (sum_more p j n)
 
   term_fits : SFits w64 c.product-s.result
   term_fits = record { sfits = c.product-s.type_inv }
@@ -39,7 +39,7 @@ pub overflow_add-s : goal.overflow_add-s
 overflow_add-s c = simp (to_z-of_z, term_fits c) (total_fits c)
 
 pub loop-j-preserved : goal.loop-j-preserved
-loop-j-preserved c = (omega arith, simp (to_z-of_z, term_fits c, total_fits c) (sum_is c))
+loop-j-preserved c = simp (to_z-of_z, term_fits c, total_fits c) (sum_is c)
 
 pub loop-j-init : goal.loop-j-init
-loop-j-init c = (omega arith, sum_none c.requires)
+loop-j-init c = sum_none c.requires

@@ -1,13 +1,13 @@
 -- The proof of the cycle of calls {lay_from, lay_joined}. `lay_from` at nesting k calls `lay_joined` at k - 1, which calls `lay_from` at its own nesting,
 -- in its loop: the measure is 2k for `lay_from` and 2k + 1 for `lay_joined`. The loop's invariant: what is still to be laid gives the whole. Its measure is
 -- the bytes left. Assumes nothing.
-use Prim.Native.Nat.{◌-◌, ◌<◌}
 use native.Mathlib.Omega.{arith}
-use Rattle.smtlib.specs.Lexicon.{most_nesting}
+use mathlib.Core.Path.{sym, ◌∙◌}
+use Rattle.std.proofs.lemmas.Result.{err_from_is_err_and}
 use Rattle.terms.specs.Names.{names_in}
-use Rattle.laying.proofs.LaidLists.{headed_here, nesting_left, parts_inside, head_least, sides_clause, parts_sound, parts_ready, negation_refused, join_code_bounds, parts_clause, parts_begun, part_faultless, part_further, begun_ready, join_stopped, last_laid, part_stopped, parts_onward}
+use Rattle.terms.specs.Heads.{word_code}
+use Rattle.laying.proofs.LaidLists.{headed_here, nesting_left, parts_inside, head_least, no_comparison, sides_further, sides_clause, parts_sound, parts_ready, negation_refused, join_code_bounds, parts_refused, parts_clause, parts_begun, part_faultless, part_further, begun_ready, join_stopped, last_laid, part_stopped, parts_onward}
 use Rattle.laying.proofs.+lay_from_lay_joined.Goals as goal
-use Rattle.laying.proofs.+lay_from_lay_joined.Goals.{lay_joined-then-end-via-then-end, lay_joined-then-end-via-else-end+then-more-ne0}
 
 pub lay_from-list_at-list-requires : goal.lay_from-list_at-list-requires
 lay_from-list_at-list-requires t c =
@@ -24,96 +24,120 @@ lay_from-lay_sides-requires t c =
     let pre = c.requires in
     let names = names_in c.args.text.now c.args.names.now c.args.count in
     let g = headed_here names pre.1.0 c.list_at-list.ensures.starts pre.1.1.1 in
-    (pre.0, (parts_inside pre.1.0 g c.list_at-list.ensures.inside, (pre.1.1.0, (head_least pre.1.0 g, omega arith))))
+    (pre.0, (parts_inside pre.1.0 g c.list_at-list.ensures.inside, (pre.1.1.0, (rw c.in-Comparison.is at c.kind.ensures))))
 
-pub lay_from-returns-then-list-lt-NOT : goal.lay_from-returns-then-list-lt-NOT
-lay_from-returns-then-list-lt-NOT t c =
+pub lay_from-returns-in-Comparison-clause-inside : goal.lay_from-returns-in-Comparison-clause-inside
+lay_from-returns-in-Comparison-clause-inside t c =
     let pre = c.requires in
     let names = names_in c.args.text.now c.args.names.now c.args.count in
     let g = headed_here names pre.1.0 c.list_at-list.ensures.starts pre.1.1.1 in
-    record { inside = (c.lay_sides.ensures.inside.1, λ z. omega (arith, g.further, c.lay_sides.ensures.inside.0)); laid = sides_clause pre.1.0 g c.args.laying _ c.lay_sides.ensures.laid }
+    sides_further c.args.at _ _ _ g.further c.lay_sides.ensures.inside
 
-pub lay_from-deepen_if-begun-requires : goal.lay_from-deepen_if-begun-requires
-lay_from-deepen_if-begun-requires t c =
+pub lay_from-returns-in-Comparison-clause-laid : goal.lay_from-returns-in-Comparison-clause-laid
+lay_from-returns-in-Comparison-clause-laid t c =
+    let pre = c.requires in
+    let names = names_in c.args.text.now c.args.names.now c.args.count in
+    let g = headed_here names pre.1.0 c.list_at-list.ensures.starts pre.1.1.1 in
+    sides_clause pre.1.0 g c.args.laying _ c.lay_sides.ensures.laid
+
+pub lay_from-deepen_if-requires : goal.lay_from-deepen_if-requires
+lay_from-deepen_if-requires t c =
     (c.requires.1.1.0, (omega arith, omega arith))
 
-pub lay_from-returns-then-begun-ne0 : goal.lay_from-returns-then-begun-ne0
-lay_from-returns-then-begun-ne0 t c =
+pub lay_from-returns-in_err-begun-clause-laid : goal.lay_from-returns-in_err-begun-clause-laid
+lay_from-returns-in_err-begun-clause-laid t c =
     let pre = c.requires in
     let names = names_in c.args.text.now c.args.names.now c.args.count in
     let g = headed_here names pre.1.0 c.list_at-list.ensures.starts pre.1.1.1 in
-    let refused = c.if-begun-ne0.true in
-    rw c.laid_at.ensures (record { inside = (pre.1.0.here, λ z. absurd (refused z)); laid = negation_refused pre.1.0 g (omega arith) c.args.laying _ pre.1.1.0 c.deepen_if-begun.ensures c.args.at refused })
+    let p = err_from_is_err_and c.from_residual.result c.from_residual.ensures.1 in
+    let k = rw c.negates.ensures at c.in_err-begun.ensures in
+    rw (p.1, p.2) (negation_refused pre.1.0 g (no_comparison _ c.kind.ensures c.in_default.not-Comparison (head_least pre.1.0 g)) c.args.laying _ k.0 k.1)
 
-pub lay_from-lay_joined-parts-requires : goal.lay_from-lay_joined-parts-requires
-lay_from-lay_joined-parts-requires t c =
+pub lay_from-lay_joined-requires : goal.lay_from-lay_joined-requires
+lay_from-lay_joined-requires t c =
     let pre = c.requires in
     let names = names_in c.args.text.now c.args.names.now c.args.count in
     let g = headed_here names pre.1.0 c.list_at-list.ensures.starts pre.1.1.1 in
-    (omega (arith, nesting_left pre.1.0 g), (pre.0, (parts_inside pre.1.0 g c.list_at-list.ensures.inside, (parts_ready pre.1.0 g (omega arith) c.args.laying c.deepen_if-begun.result pre.1.1.0 c.deepen_if-begun.ensures c.if-begun-ne0.false, (rw c.join_code-code.ensures (join_code_bounds c.list_at-list.result.code), parts_sound pre.1.0 g (omega arith) c.args.laying c.deepen_if-begun.result pre.1.1.0 c.deepen_if-begun.ensures)))))
+    (omega (arith, nesting_left pre.1.0 g), (pre.0, (parts_inside pre.1.0 g c.list_at-list.ensures.inside, (parts_ready pre.1.0 g (no_comparison _ c.kind.ensures c.in_default.not-Comparison (head_least pre.1.0 g)) c.args.laying c.in_ok-begun.begun pre.1.1.0 (rw c.negates.ensures at c.in_ok-begun.ensures), (rw c.join_code-code.ensures (join_code_bounds (word_code c.list_at-list.result.head)), parts_sound pre.1.0 g (no_comparison _ c.kind.ensures c.in_default.not-Comparison (head_least pre.1.0 g)) c.args.laying)))))
 
-pub lay_from-returns : goal.lay_from-returns
-lay_from-returns t c =
+pub lay_from-returns-in_err-parts-clause-laid : goal.lay_from-returns-in_err-parts-clause-laid
+lay_from-returns-in_err-parts-clause-laid t c =
     let pre = c.requires in
     let names = names_in c.args.text.now c.args.names.now c.args.count in
     let g = headed_here names pre.1.0 c.list_at-list.ensures.starts pre.1.1.1 in
-    rw c.laid_at-2.ensures (record { inside = (c.lay_joined-parts.ensures.inside.0, λ z. omega (arith, g.further, c.lay_joined-parts.ensures.inside.1 z)); laid = parts_clause pre.1.0 g c.if-list-lt-NOT.false c.args.laying _ pre.1.1.0 c.deepen_if-begun.ensures _ c.if-begun-ne0.false (rw c.join_code-code.ensures at c.lay_joined-parts.ensures.laid) })
+    let p = err_from_is_err_and c.from_residual-in_err-parts.result c.from_residual-in_err-parts.ensures.1 in
+    rw (p.1, p.2) (parts_refused pre.1.0 g (no_comparison _ c.kind.ensures c.in_default.not-Comparison (head_least pre.1.0 g)) c.args.laying _ pre.1.1.0 (rw c.negates.ensures at c.in_ok-begun.ensures) _ (rw c.join_code-code.ensures at c.in_err-parts.ensures.laid))
 
-pub lay_joined-loop-end-init : goal.lay_joined-loop-end-init
-lay_joined-loop-end-init t c =
+pub lay_from-returns-clause-inside : goal.lay_from-returns-clause-inside
+lay_from-returns-clause-inside t c =
+    let pre = c.requires in
+    let names = names_in c.args.text.now c.args.names.now c.args.count in
+    let g = headed_here names pre.1.0 c.list_at-list.ensures.starts pre.1.1.1 in
+    let inside = c.in_ok-parts.ensures.inside in
+    rw c.laid_at.ensures (omega (arith, g.further, inside.0), inside.1)
+
+pub lay_from-returns-clause-laid : goal.lay_from-returns-clause-laid
+lay_from-returns-clause-laid t c =
+    let pre = c.requires in
+    let names = names_in c.args.text.now c.args.names.now c.args.count in
+    let g = headed_here names pre.1.0 c.list_at-list.ensures.starts pre.1.1.1 in
+    rw c.laid_at.ensures (parts_clause pre.1.0 g (no_comparison _ c.kind.ensures c.in_default.not-Comparison (head_least pre.1.0 g)) c.args.laying _ pre.1.1.0 (rw c.negates.ensures at c.in_ok-begun.ensures) _ (rw c.join_code-code.ensures at c.in_ok-parts.ensures.laid))
+
+pub lay_joined-loop-begun-init : goal.lay_joined-loop-begun-init
+lay_joined-loop-begun-init t c =
     let pre = c.requires in
     (omega arith, (pre.1.0.here, parts_begun _ _ _ _ _ _ _ pre.1.1.1.1 pre.1.0.unbroken pre.1.1.0))
 
 pub lay_joined-part_end-end-requires : goal.lay_joined-part_end-end-requires
 lay_joined-part_end-end-requires t c =
-    c.loop-end.invariant.1.0
+    c.loop-begun.invariant.1.0
 
-pub lay_joined-deepen_if-begun-requires : goal.lay_joined-deepen_if-begun-requires
-lay_joined-deepen_if-begun-requires t c =
+pub lay_joined-deepen_if-requires : goal.lay_joined-deepen_if-requires
+lay_joined-deepen_if-requires t c =
     let code = c.requires.1.1.1.0 in
-    (c.loop-end.invariant.1.1.joins.ready, (omega (arith, code.0), code.1))
+    (c.loop-begun.invariant.1.1.joins.ready, (omega (arith, code.0), code.1))
 
-pub lay_joined-returns-then-begun-ne0 : goal.lay_joined-returns-then-begun-ne0
-lay_joined-returns-then-begun-ne0 t c =
+pub lay_joined-returns-in_err-begun-clause-laid : goal.lay_joined-returns-in_err-begun-clause-laid
+lay_joined-returns-in_err-begun-clause-laid t c =
     let pre = c.requires in
-    let j = c.loop-end.invariant.1.1 in
-    let refused = c.if-begun-ne0.true in
-    rw c.laid_at.ensures (record { inside = (c.loop-end.invariant.1.0, λ z. absurd (refused z)); laid = join_stopped j c.part_end-end.result _ (omega (arith, pre.1.0.left)) pre.1.1.1.0.0 pre.1.1.1.0.1 c.part_end-end.ensures.ends c.deepen_if-begun.ensures c.loop-end.next refused })
+    let j = c.loop-begun.invariant.1.1 in
+    let p = err_from_is_err_and c.from_residual.result c.from_residual.ensures.1 in
+    let k = c.in_err-begun.ensures in
+    rw (p.1, p.2) (join_stopped j c.part_end-end.result (omega (arith, pre.1.0.left)) pre.1.1.1.0.0 pre.1.1.1.0.1 c.part_end-end.ensures.ends (sym c.is_some.ensures ∙ k.0) _ k.1)
 
-pub lay_joined-lay_from-part-requires : goal.lay_joined-lay_from-part-requires
-lay_joined-lay_from-part-requires t c =
+pub lay_joined-lay_from-requires : goal.lay_joined-lay_from-requires
+lay_joined-lay_from-requires t c =
     let pre = c.requires in
-    let j = c.loop-end.invariant.1.1 in
-    (omega arith, (pre.0, (record { here = c.loop-end.invariant.1.0; left = pre.1.0.left; unbroken = j.unbroken }, (begun_ready j c.part_end-end.result c.deepen_if-begun.result (omega (arith, pre.1.0.left)) pre.1.1.1.0.0 pre.1.1.1.0.1 c.part_end-end.ensures.ends c.deepen_if-begun.ensures c.if-begun-ne0.false, part_faultless j))))
+    let j = c.loop-begun.invariant.1.1 in
+    (omega arith, (pre.0, (record { here = c.loop-begun.invariant.1.0; left = pre.1.0.left; unbroken = j.unbroken }, (begun_ready j c.part_end-end.result (omega (arith, pre.1.0.left)) pre.1.1.1.0.0 pre.1.1.1.0.1 c.part_end-end.ensures.ends c.in_ok-begun.begun (rw c.is_some.ensures at c.in_ok-begun.ensures), part_faultless j))))
 
-pub lay_joined-returns-then-end : goal.lay_joined-returns-then-end
-lay_joined-returns-then-end t c =
+pub lay_joined-returns-in_err-part-clause-laid : goal.lay_joined-returns-in_err-part-clause-laid
+lay_joined-returns-in_err-part-clause-laid t c =
     let pre = c.requires in
-    let j = c.loop-end.invariant.1.1 in
-    let z = c.if-begun-ne0.false in
-    let inside : 0 < most_nesting - c.args.nesting = omega (arith, pre.1.0.left) in
-    let low = pre.1.1.1.0.0 in
-    let high = pre.1.1.1.0.1 in
-    let ends = c.part_end-end.ensures.ends in
-    let d = c.deepen_if-begun.ensures in
-    let part = c.lay_from-part.ensures.laid in
-    let further = part_further j c.part_end-end.result c.deepen_if-begun.result inside low high ends d in
-    rw c.laid_at-then-end.ensures (record {
-      inside = (c.part_end-end.ensures.inside, λ y. omega (arith, further, c.loop-end.invariant.0));
-      laid = elim c.then-end.branch [
-        | lay_joined-then-end-via-then-end w ↦ last_laid j c.part_end-end.result c.deepen_if-begun.result inside low high ends d z c.lay_from-part.result part w.if-end.true
-        | lay_joined-then-end-via-else-end+then-more-ne0 w ↦ part_stopped j c.part_end-end.result c.deepen_if-begun.result inside low high ends d z c.lay_from-part.result part w.if-more-ne0.true
-      ];
-    })
+    let j = c.loop-begun.invariant.1.1 in
+    let p = err_from_is_err_and c.from_residual-in_err-part.result c.from_residual-in_err-part.ensures.1 in
+    rw (p.1, p.2) (part_stopped j c.part_end-end.result (omega (arith, pre.1.0.left)) pre.1.1.1.0.0 pre.1.1.1.0.1 c.part_end-end.ensures.ends c.in_ok-begun.begun (rw c.is_some.ensures at c.in_ok-begun.ensures) _ (rw c.in_err-part.was at c.lay_from.ensures.laid))
 
-pub lay_joined-loop-end-smaller : goal.lay_joined-loop-end-smaller
-lay_joined-loop-end-smaller t c =
-    omega (arith, c.lay_from-part.ensures.inside.1 c.if-more-ne0.false)
-
-pub lay_joined-loop-end-preserved : goal.lay_joined-loop-end-preserved
-lay_joined-loop-end-preserved t c =
+pub lay_joined-returns-in_default-clause-inside : goal.lay_joined-returns-in_default-clause-inside
+lay_joined-returns-in_default-clause-inside t c =
     let pre = c.requires in
-    let j = c.loop-end.invariant.1.1 in
-    let y = c.if-more-ne0.false in
-    let further = c.lay_from-part.ensures.inside.1 y in
-    (omega (arith, further), (c.lay_from-part.ensures.inside.0, parts_onward j c.part_end-end.result c.deepen_if-begun.result (omega (arith, pre.1.0.left)) pre.1.1.1.0.0 pre.1.1.1.0.1 c.part_end-end.ensures.ends c.deepen_if-begun.ensures c.if-begun-ne0.false c.lay_from-part.result c.lay_from-part.ensures.laid c.if-end.false y))
+    let j = c.loop-begun.invariant.1.1 in
+    let further = part_further j c.part_end-end.result (omega (arith, pre.1.0.left)) pre.1.1.1.0.0 pre.1.1.1.0.1 c.part_end-end.ensures.ends in
+    rw c.laid_at.ensures (omega (arith, further, c.loop-begun.invariant.0), c.part_end-end.ensures.inside)
+
+pub lay_joined-returns-in_default-clause-laid : goal.lay_joined-returns-in_default-clause-laid
+lay_joined-returns-in_default-clause-laid t c =
+    let pre = c.requires in
+    let j = c.loop-begun.invariant.1.1 in
+    rw c.laid_at.ensures (last_laid j c.part_end-end.result (omega (arith, pre.1.0.left)) pre.1.1.1.0.0 pre.1.1.1.0.1 c.part_end-end.ensures.ends c.in_ok-begun.begun (rw c.is_some.ensures at c.in_ok-begun.ensures) c.in_ok-part.part (rw c.in_ok-part.was at c.lay_from.ensures.laid) c.in_default.is)
+
+pub lay_joined-loop-begun-smaller : goal.lay_joined-loop-begun-smaller
+lay_joined-loop-begun-smaller t c =
+    omega (arith, c.in_ok-part.ensures.inside.0, c.in_ok-part.ensures.inside.1)
+
+pub lay_joined-loop-begun-preserved : goal.lay_joined-loop-begun-preserved
+lay_joined-loop-begun-preserved t c =
+    let pre = c.requires in
+    let j = c.loop-begun.invariant.1.1 in
+    let inside = c.in_ok-part.ensures.inside in
+    (omega (arith, inside.0), (inside.1, parts_onward j c.part_end-end.result (omega (arith, pre.1.0.left)) pre.1.1.1.0.0 pre.1.1.1.0.1 c.part_end-end.ensures.ends c.in_ok-begun.begun (rw c.is_some.ensures at c.in_ok-begun.ensures) c.in_ok-part.part (rw c.in_ok-part.was at c.lay_from.ensures.laid) _ c.in-Some.is))

@@ -21,7 +21,7 @@ insert_rows-requires c =
 
 pub explore-requires : goal.explore-requires
 explore-requires c =
-    record { task = c.requires.task; stands = c.requires.stands; linked = record { indexed = c.insert_rows.ensures; room = omega (arith, c.requires.linked.room, c.insert_rows.auto.links) }; stopped_value = c.requires.stopped_value }
+    record { task = c.requires.task; stands = c.requires.stands; linked = record { indexed = c.insert_rows.ensures; room = omega (arith, c.requires.linked.room, c.insert_rows.auto.links) } }
 
 pub returns : goal.returns
 returns c = c.explore.ensures

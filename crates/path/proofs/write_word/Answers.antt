@@ -20,16 +20,14 @@ overflow_cast-word c = omega (arith, step (goal.at.overflow_cast-word c).In-loop
 pub bounds-word-left : goal.bounds-word-left
 bounds-word-left c = omega (arith, step (goal.at.bounds-word-left c).In-loop-t)
 
-pub overflow_cast-t : goal.overflow_cast-t
-overflow_cast-t c = omega (arith, step (goal.at.overflow_cast-t c).In-loop-t)
-
 pub loop-t-smaller : goal.loop-t-smaller
-loop-t-smaller c = omega (arith, step (goal.at.loop-t-smaller c).In-loop-t)
+loop-t-smaller c = omega (arith, c.from-t.ensures, step (goal.at.loop-t-smaller c).In-loop-t)
 
 pub loop-t-preserved : goal.loop-t-preserved
 loop-t-preserved c =
     let inv = c.loop-t.invariant in
-    let st = step (goal.at.loop-t-preserved c).In-loop-t in (
+    let st = step (goal.at.loop-t-preserved c).In-loop-t in
+    rw c.from-t.ensures (
       omega arith,
       omega arith,
       omega arith,

@@ -10,7 +10,7 @@ returns c =
     record {
       planned = record {
         tables = record { limits = p.limits; kinds_are = p.kinds_are; count = p.count; sums_are = p.sums_are };
-        letters_are = c.letters-letters.ensures.0;
+        letters_are = rw c.from.ensures at c.letters-letters.ensures.0;
         truths_are = c.truths_of-truths.ensures;
         bits = c.fresh_letters.ensures;
       };

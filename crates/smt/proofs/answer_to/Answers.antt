@@ -11,17 +11,17 @@ returns-then-text-gt-TEXT c =
     let h : most_text < length c.args.text.now = omega arith in
     solved_put (solved_long c.args.text.now h) c.say_alone.ensures
 
-pub returns-in-Refused : goal.returns-in-Refused
-returns-in-Refused c =
-    let h : length c.args.text.now ≤ most_text = omega arith in
-    solved_put (given_refused c.args.text.now h c.import-given.result c.import-given.ensures _ c.in-Refused.is) c.say_alone-in-Refused.ensures
-
 pub decide_held-requires : goal.decide_held-requires
 decide_held-requires c =
     let h : length c.args.text.now ≤ most_text = omega arith in
-    (given_bounds c.args.text.now h c.import-given.result c.import-given.ensures c.in_default.is, c.requires)
+    (given_bounds c.args.text.now h c.in-Ok.given c.in-Ok.ensures, c.requires)
 
-pub returns : goal.returns
-returns c =
+pub returns-in-Ok : goal.returns-in-Ok
+returns-in-Ok c =
     let h : length c.args.text.now ≤ most_text = omega arith in
-    given_solved c.args.text.now h c.import-given.result c.import-given.ensures c.in_default.is c.decide_held.ensures
+    given_solved c.args.text.now h c.in-Ok.given c.in-Ok.ensures c.decide_held.ensures
+
+pub returns-in-Err : goal.returns-in-Err
+returns-in-Err c =
+    let h : length c.args.text.now ≤ most_text = omega arith in
+    solved_put (given_refused c.args.text.now h c.in-Err.refusal c.in-Err.ensures) c.say_alone-in-Err.ensures

@@ -1,5 +1,4 @@
 use mathlib.Core.Path.{◌≡◌}
-use Prim.Native.Nat.{◌-◌, ◌≤◌}
 use lib.ListN.{replicate}
 use lib.IntN.{pos}
 use Rattle.scope.specs.Whole.{at_front}
@@ -8,7 +7,4 @@ use Rattle.step.specs.Cells.{step_at}
 use Rattle.step.proofs.step_row.Given as goal
 
 abbrev pub invariant-loop-i : goal.invariant-loop-i
-invariant-loop-i l = (l.i ≤ 8) × (l.target ≡ at_front (listed (step_at l.kinds l.sums l.letter l.row) l.i) (replicate 8 (pos 0)))
-
-abbrev pub decreases-loop-i : goal.decreases-loop-i
-decreases-loop-i l = 8 - l.i
+invariant-loop-i l = (l.target ≡ at_front (listed (step_at l.kinds l.sums l.letter l.row) l.i) (replicate 8 (pos 0)))

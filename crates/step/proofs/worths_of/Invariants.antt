@@ -1,6 +1,5 @@
 use mathlib.Core.Path.{◌≡◌}
 use mathlib.Core.Bool.{false}
-use Prim.Native.Nat.{◌-◌, ◌≤◌}
 use lib.ListN.{replicate}
 use Rattle.scope.specs.Whole.{at_front}
 use Rattle.step.specs.Eight.{listed}
@@ -8,7 +7,4 @@ use Rattle.step.specs.Cells.{worth_at}
 use Rattle.step.proofs.worths_of.Given as goal
 
 abbrev pub invariant-loop-i : goal.invariant-loop-i
-invariant-loop-i l = (l.i ≤ 8) × (l.worths ≡ at_front (listed (worth_at l.kinds l.row) l.i) (replicate 8 false))
-
-abbrev pub decreases-loop-i : goal.decreases-loop-i
-decreases-loop-i l = 8 - l.i
+invariant-loop-i l = (l.worths ≡ at_front (listed (worth_at l.kinds l.row) l.i) (replicate 8 false))

@@ -1,8 +1,7 @@
--- `table::write_row` meets its contract. The invariant: the mark and the next states of the letters passed are written. The measure is letters
--- less `letter`. Assumes nothing.
+-- `table::write_row` meets its contract. The invariant: the mark and the next states of the letters passed are written.
 use mathlib.Core.Path.{sym, ◌∙◌}
 use native.Mathlib.Omega.{arith}
-use Rattle.table.specs.Tabling.{row_room, letter_steps}
+use Rattle.table.specs.Tabling.{row_room, letter_steps, target_there}
 use Rattle.table.specs.Row.{mark_written, next_written, row_written}
 use Rattle.table.proofs.write_row.Goals as goal
 
@@ -23,28 +22,25 @@ loop-letter-init c =
 pub next_state-requires : goal.next_state-requires
 next_state-requires c =
     let loaded = c.load_row-from.ensures in
-    record { indexed = c.requires.indexed; steps = letter_steps c.requires.tabling c.args.row c.requires.row_lt_count.0 loaded.0 loaded.1 c.loop-letter.letter c.loop-letter-test.true }
+    record { indexed = c.requires.indexed; steps = letter_steps c.requires.tabling c.args.row c.requires.row_lt_count.0 loaded.0 loaded.1 c.loop-letter.letter (omega arith); there = target_there c.requires.tabling c.args.row c.requires.row_lt_count.0 loaded.0 loaded.1 c.loop-letter.letter (omega arith) }
 
 pub overflow_add-part : goal.overflow_add-part
-overflow_add-part c = omega (arith, c.loop-letter-test.true, c.requires.tabling.task.few_letters)
+overflow_add-part c = omega (arith, c.requires.tabling.task.few_letters)
 
 pub offset_bounds-part-letter : goal.offset_bounds-part-letter
-offset_bounds-part-letter c = omega (arith, c.loop-letter-test.true, c.requires.tabling.task.few_letters)
+offset_bounds-part-letter c = omega (arith, c.requires.tabling.task.few_letters)
 
 pub bounds-part-letter : goal.bounds-part-letter
-bounds-part-letter c = omega (arith, c.loop-letter-test.true, c.loop-letter.invariant.size)
-
-pub loop-letter-smaller : goal.loop-letter-smaller
-loop-letter-smaller c = omega (arith, c.loop-letter-test.true)
+bounds-part-letter c = omega (arith, c.loop-letter.invariant.size)
 
 pub loop-letter-preserved : goal.loop-letter-preserved
 loop-letter-preserved c =
     let loaded = c.load_row-from.ensures in
-    next_written c.requires.tabling c.args.row c.requires.row_lt_count.0 loaded.0 loaded.1 c.loop-letter-test.true c.loop-letter.invariant c.next_state.result
+    next_written c.requires.tabling c.args.row c.requires.row_lt_count.0 loaded.0 loaded.1 (omega arith) c.loop-letter.invariant c.next_state.result
     c.next_state.ensures
 
 pub shape_of-part : goal.shape_of-part
 shape_of-part c = c.loop-letter.invariant.size ∙ sym c.requires.row_lt_count.1
 
 pub returns : goal.returns
-returns c = row_written c.requires.tabling c.args.row c.requires.row_lt_count.0 c.loop-letter-test.false c.loop-letter.invariant
+returns c = row_written c.requires.tabling c.args.row c.requires.row_lt_count.0 (omega arith) c.loop-letter.invariant

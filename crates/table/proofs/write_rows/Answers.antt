@@ -1,5 +1,4 @@
--- `table::write_rows` meets its contract. The invariant: the rows before `row` are written and the cells beyond them are as they were. The
--- measure is count less `row`. Assumes nothing.
+-- `table::write_rows` meets its contract. The invariant: the rows before `row` are written and the cells beyond them are as they were.
 use mathlib.Core.Path.{◌∙◌}
 use Prim.Native.Nat.{◌+◌, ◌*◌, ◌-◌, ◌≤◌}
 use native.Mathlib.Omega.{arith}
@@ -15,7 +14,7 @@ within : (c : goal.In-loop-row)
     → c.loop-row.row * (1 + c.args.plan.letters) + (1 + c.args.plan.letters)
     ≤ length c.loop-row.table
 within c =
-    omega (arith, row_end c.loop-row.row c.args.count (1 + c.args.plan.letters) c.loop-row-test.true, c.requires.letters_in_bounds, c.loop-row.invariant.size)
+    omega (arith, row_end c.loop-row.row c.args.count (1 + c.args.plan.letters) (omega arith), c.requires.letters_in_bounds, c.loop-row.invariant.size)
 
 pub loop-row-init : goal.loop-row-init
 loop-row-init c = no_row_written c.requires.tabling c.args.table.now
@@ -41,16 +40,13 @@ slice_bounds-write_row-end c = let w = within c in omega (arith, w)
 pub write_row-requires : goal.write_row-requires
 write_row-requires c =
     let w = within (goal.at.write_row-requires c).In-loop-row in
-    record { tabling = c.requires.tabling; indexed = c.requires.indexed; row_lt_count = (c.loop-row-test.true, simp (length-take, length-drop) (omega (arith, w))) }
-
-pub loop-row-smaller : goal.loop-row-smaller
-loop-row-smaller c = omega arith
+    record { tabling = c.requires.tabling; indexed = c.requires.indexed; row_lt_count = (omega arith, simp (length-take, length-drop) (omega (arith, w))) }
 
 pub loop-row-preserved : goal.loop-row-preserved
 loop-row-preserved c =
     let width = 1 + c.args.plan.letters in
     let row = c.loop-row.row in
-    row_more c.requires.tabling c.args.table.now row c.loop-row-test.true c.loop-row.invariant c.write_row.new.part
+    row_more c.requires.tabling c.args.table.now row (omega arith) c.loop-row.invariant c.write_row.new.part
     c.write_row.ensures (row * width + width - row * width) (omega arith)
     (same_len_mid (row * width) (row * width + width - row * width) c.loop-row.table c.write_row.new.part c.write_row.auto.part ∙ c.loop-row.invariant.size)
 
@@ -59,4 +55,4 @@ shape_of-table c = c.loop-row.invariant.size
 
 pub returns : goal.returns
 returns c =
-    all_rows_written c.requires.tabling c.args.table.now c.loop-row.row c.loop-row-test.false c.loop-row.invariant
+    all_rows_written c.requires.tabling c.args.table.now c.loop-row.row (omega arith) c.loop-row.invariant

@@ -10,6 +10,7 @@ use Rattle.forms.specs.Read.{FormReads, ListEnds}
 use Rattle.terms.specs.Names.{names_in}
 use Rattle.terms.specs.Heads.{HeadReads}
 use Rattle.terms.specs.Read.{ListReads}
+use Rattle.terms.proofs.HeadCodes.{no_term}
 use Rattle.terms.proofs.WordTerms.{outside_says}
 use Rattle.terms.proofs.TermsRead.{not_end, other_part, outside_part, list_part}
 use Rattle.terms.proofs.ListsRead.{sofar_none, sofar_next, sofar_sum, sofar_all, sofar_end}
@@ -42,30 +43,30 @@ pub term_from-list_end-requires : goal.term_from-list_end-requires
 term_from-list_end-requires t c =
     c.form_at-form.ensures.stands.inside
 
-pub term_from-returns-then-head-gt-TIMES : goal.term_from-returns-then-head-gt-TIMES
+pub term_from-returns-in_default : goal.term_from-returns-in_default
 unfolding FormReads ListEnds HeadReads ListReads
-term_from-returns-then-head-gt-TIMES t c =
+term_from-returns-in_default t c =
     let depth : ℕ = most_nesting - c.args.nesting in
     let here = (c.form_at-form.ensures.read depth c.requires.1.unbroken).open_list c.if-form-ne-OPEN.false in
     let on = c.form_at-form.ensures.stands.goes_on (λ e. omega (arith, c.if-form-ne-OPEN.false)) in
-    let outside = outside_says c.form_at-form.result.place c.list_end.result in
-    rw c.outside.ensures (record {
+    let outside = outside_says c.form_at-form.result.place in
+    rw (c.of-in_default.ensures, c.outside-outside.ensures) (record {
       inside = (omega (arith, on, c.form_at-form.ensures.stands.not_before, c.list_end.ensures.stands.0), c.list_end.ensures.stands.1);
-      read = outside_part (names_in c.args.text.now c.args.names.now c.args.count) here (c.head_at-head.ensures.read (suc depth) here.unbroken) c.if-head-gt-TIMES.true (c.list_end.ensures.closed depth here.unbroken) outside;
+      read = outside_part (names_in c.args.text.now c.args.names.now c.args.count) here (c.head_at-head.ensures.read (suc depth) here.unbroken) (no_term _ c.kind.ensures c.in_default.not-Term) (c.list_end.ensures.closed depth here.unbroken) outside;
     })
 
-pub term_from-overflow_sub-nesting : goal.term_from-overflow_sub-nesting
+pub term_from-overflow_sub-left : goal.term_from-overflow_sub-left
 unfolding FormReads ListEnds HeadReads ListReads
-term_from-overflow_sub-nesting t c =
+term_from-overflow_sub-left t c =
     let here = (c.form_at-form.ensures.read (most_nesting - c.args.nesting) c.requires.1.unbroken).open_list c.if-form-ne-OPEN.false in
     omega (arith, here.nested)
 
-pub term_from-terms_from-requires : goal.term_from-terms_from-requires
+pub term_from-terms_from-list-requires : goal.term_from-terms_from-list-requires
 unfolding FormReads ListEnds HeadReads ListReads
-term_from-terms_from-requires t c =
+term_from-terms_from-list-requires t c =
     let depth : ℕ = most_nesting - c.args.nesting in
     let here = (c.form_at-form.ensures.read depth c.requires.1.unbroken).open_list c.if-form-ne-OPEN.false in
-    let parts = (c.head_at-head.ensures.read (suc depth) here.unbroken).parts (omega (arith, c.if-head-gt-TIMES.false)) in
+    let parts = (c.head_at-head.ensures.read (suc depth) here.unbroken).parts (omega (arith, (rw c.in-Term.is at c.kind.ensures))) in
     let deeper : most_nesting - (c.args.nesting - 1) ≡ suc depth = omega (arith, here.nested, c.requires.1.left) in (
       omega (arith, here.nested, c.decreases),
       (
@@ -76,62 +77,61 @@ term_from-terms_from-requires t c =
             left = omega (arith, c.requires.1.left);
             unbroken = rw deeper parts.unbroken;
           },
-          omega (arith, c.if-head-gt-TIMES.false),
+          omega (arith, (rw c.in-Term.is at c.kind.ensures)),
         ),
       ),
     )
 
-pub term_from-returns : goal.term_from-returns
+pub term_from-returns-in-Term : goal.term_from-returns-in-Term
 unfolding FormReads ListEnds HeadReads ListReads
-term_from-returns t c =
+term_from-returns-in-Term t c =
     let depth : ℕ = most_nesting - c.args.nesting in
     let opening = c.if-form-ne-OPEN.false in
     let here = (c.form_at-form.ensures.read depth c.requires.1.unbroken).open_list opening in
     let on = c.form_at-form.ensures.stands.goes_on (λ e. omega (arith, opening)) in
     let names = names_in c.args.text.now c.args.names.now c.args.count in
-    record {
-      inside = (omega (arith, on, c.form_at-form.ensures.stands.not_before, c.head_at-head.ensures.stands.0, c.terms_from.ensures.inside.0), c.terms_from.ensures.inside.1);
-      read = list_part names here (most_nesting - (c.args.nesting - 1)) (c.head_at-head.ensures.read (suc depth) here.unbroken) c.if-head-gt-TIMES.false (omega (arith, here.nested, c.requires.1.left)) c.terms_from.ensures.read;
+    rw c.of.ensures record {
+      inside = (omega (arith, on, c.form_at-form.ensures.stands.not_before, c.head_at-head.ensures.stands.0, c.terms_from-list.ensures.inside.0), c.terms_from-list.ensures.inside.1);
+      read = list_part names here (most_nesting - (c.args.nesting - 1)) (c.head_at-head.ensures.read (suc depth) here.unbroken) (rw c.in-Term.is at c.kind.ensures) (omega (arith, here.nested, c.requires.1.left)) c.terms_from-list.ensures.read;
     }
 
-pub terms_from-loop-part-init : goal.terms_from-loop-part-init
-terms_from-loop-part-init t c =
+pub terms_from-loop-term-init : goal.terms_from-loop-term-init
+terms_from-loop-term-init t c =
     sofar_none (names_in c.args.text.now c.args.names.now c.args.count) c.requires.1.0.here c.requires.1.0.unbroken c.none-gathering.ensures.fits c.none-gathering.ensures.gathers
 
 pub terms_from-term_from-part-requires : goal.terms_from-term_from-part-requires
 terms_from-term_from-part-requires t c =
-    (omega (arith, c.decreases), (c.requires.0, record { here = c.loop-part.invariant.onward.1; left = c.requires.1.0.left; unbroken = c.loop-part.invariant.unbroken }))
+    (omega (arith, c.decreases), (c.requires.0, record { here = c.loop-term.invariant.onward.1; left = c.requires.1.0.left; unbroken = c.loop-term.invariant.unbroken }))
 
 pub terms_from-settled-requires : goal.terms_from-settled-requires
 terms_from-settled-requires t c =
-    c.loop-part.invariant.fits
+    c.loop-term.invariant.fits
 
-pub terms_from-returns-then-part : goal.terms_from-returns-then-part
+pub terms_from-returns-in_default : goal.terms_from-returns-in_default
 unfolding ListReads
-terms_from-returns-then-part t c =
-    let i = c.loop-part.invariant in
-    let end = c.term_from-part.ensures.read.no_more c.if-part.true in
+terms_from-returns-in_default t c =
+    let i = c.loop-term.invariant in
+    let end = c.term_from-part.ensures.read.no_more c.in_default.is in
     record {
-      inside = (omega (arith, c.settled.ensures.next.0, c.term_from-part.ensures.inside.0, i.onward.0), omega (arith, c.settled.ensures.next.0, c.term_from-part.ensures.inside.1));
+      inside = (omega (arith, c.term_from-part.ensures.inside.0, i.onward.0), c.term_from-part.ensures.inside.1);
       read = λ h e. record {
-        not_ended = c.settled.ensures.next.1;
-        says = rw (sofar_all i end.0) (c.settled.ensures.says h i.sofar e c.requires.1.1 i.gathers);
-        closed = rw c.settled.ensures.next.0 (sofar_end i end.1);
+        says = rw (sofar_all i end.0) (c.settled.ensures h i.sofar e c.requires.1.1 i.gathers);
+        closed = sofar_end i end.1;
       };
     }
 
 pub terms_from-gather-more-requires : goal.terms_from-gather-more-requires
 terms_from-gather-more-requires t c =
-    let i = c.loop-part.invariant in
-    let says = (c.term_from-part.ensures.read.one_more c.if-part.false).says in
+    let i = c.loop-term.invariant in
+    let says = (c.term_from-part.ensures.read.one_more _ c.in-Some.is).says in
     let short : length c.args.text.now < 9223372036854775808 = omega (arith, c.well_formed.0.1) in
     (i.fits, (sofar_sum i short, record { within_limit = says.within_limit; numeral_small = says.numeral_small }))
 
-pub terms_from-loop-part-smaller : goal.terms_from-loop-part-smaller
-terms_from-loop-part-smaller t c =
+pub terms_from-loop-term-smaller : goal.terms_from-loop-term-smaller
+terms_from-loop-term-smaller t c =
     let read = c.term_from-part.ensures.inside in
     omega (arith, read.0, read.1)
 
-pub terms_from-loop-part-preserved : goal.terms_from-loop-part-preserved
-terms_from-loop-part-preserved t c =
-    sofar_next c.loop-part.invariant (c.term_from-part.ensures.read.one_more c.if-part.false) c.term_from-part.ensures.inside.0 c.term_from-part.ensures.inside.1 c.gather-more.ensures.fits c.gather-more.ensures.gathers
+pub terms_from-loop-term-preserved : goal.terms_from-loop-term-preserved
+terms_from-loop-term-preserved t c =
+    sofar_next c.loop-term.invariant (c.term_from-part.ensures.read.one_more _ c.in-Some.is) c.term_from-part.ensures.inside.0 c.term_from-part.ensures.inside.1 c.gather-more.ensures.fits c.gather-more.ensures.gathers

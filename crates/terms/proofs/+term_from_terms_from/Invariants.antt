@@ -11,9 +11,9 @@ decreases-term_from l = l.nesting + l.nesting
 abbrev pub decreases-terms_from : goal.decreases-terms_from
 decreases-terms_from l = l.nesting + l.nesting + 1
 
-abbrev pub invariant-terms_from-loop-part : goal.invariant-terms_from-loop-part
-invariant-terms_from-loop-part l =
+abbrev pub invariant-terms_from-loop-term : goal.invariant-terms_from-loop-term
+invariant-terms_from-loop-term l =
     Sofar l.text l.at (most_nesting - l.nesting) (names_in l.text l.names l.count) l.gathering l.next
 
-abbrev pub decreases-terms_from-loop-part : goal.decreases-terms_from-loop-part
-decreases-terms_from-loop-part l = length l.text - l.next
+abbrev pub decreases-terms_from-loop-term : goal.decreases-terms_from-loop-term
+decreases-terms_from-loop-term l = length l.text - l.next

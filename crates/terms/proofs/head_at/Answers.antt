@@ -12,7 +12,7 @@ returns-then-form-eq-SYMBOL c =
     let goes = c.form_at-form.ensures.stands.goes_on (λ e. omega arith) in
     record {
       stands = (omega arith, c.form_at-form.ensures.stands.inside);
-      read = λ depth u. symbol_head (c.form_at-form.ensures.read depth u) c.if-form-eq-SYMBOL.true refl c.head_code.ensures;
+      read = λ depth u. symbol_head (c.form_at-form.ensures.read depth u) c.if-form-eq-SYMBOL.true refl c.head_between.ensures;
     }
 
 pub returns : goal.returns

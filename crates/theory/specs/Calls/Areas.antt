@@ -1,16 +1,16 @@
 -- The areas after deciding and building, where the bytes are accepted: the states told are the rows filled, key row t has the cells of the
 -- state that the word of row t leads to, path row t the state and letter from which it was numbered, and every cell beyond is as it was.
-use Rattle.std.specs.Prelude.{◌≡◌, refl, Bool, true, false, List, [], ◌∷◌, ℕ, suc, ◌+◌, ◌*◌, ◌≤◌, ◌<◌, get_or, take, leb, ℤ}
+use Rattle.std.specs.Prelude.{◌≡◌, refl, Bool, true, false, List, [], ◌∷◌, ℕ, suc, ◌+◌, ◌*◌, ◌≤◌, ◌<◌, get_or, take, leb, ℤ, Ok, Err, Result}
 use Rattle.std.proofs.Common.{sym, ◌∙◌, mul-le-mul_right, suc-mul, arith, length-take, get_or-take, length-take-le}
 use Rattle.std.proofs.Math.Path.{ap}
 use Rattle.std.proofs.Math.Logic.{by_cases}
 use Rattle.std.proofs.Math.Decide.{dec_lt}
 use Rattle.std.proofs.Math.ListN.{length}
 use Rattle.std.proofs.Math.Seq.{take-length}
+use Rattle.scope.specs.declared.Refusal.{Refusal}
+use Rattle.scope.specs.declared.Decision.{Decision}
+use Rattle.scope.specs.declared.Building.{Building}
 use Rattle.scope.specs.declared.Question.{Question}
-use Rattle.scope.specs.declared.ReadAnswer.{ReadAnswer}
-use Rattle.scope.specs.declared.DecideAnswer.{DecideAnswer}
-use Rattle.scope.specs.declared.BuildAnswer.{BuildAnswer}
 use Rattle.scope.specs.Whole.{at_front}
 use Rattle.scope.specs.Question.{atom_count}
 use Rattle.scope.specs.Wire.{read_held}
@@ -30,12 +30,12 @@ use Rattle.theory.specs.Calls.Built.{built_of, with_room, without_room, built_ac
 use Rattle.theory.specs.Calls.Lengths.{path_length, key_row, keys_length, counted_are}
 
 -- the states that an answer tells of
-abbrev pub states_told : DecideAnswer → ℕ
-states_told (DecideAnswer.Found states k) = states
-states_told (DecideAnswer.Never states) = states
-states_told (DecideAnswer.NoRoom states) = states
-states_told (DecideAnswer.Short states k) = states
-states_told (DecideAnswer.Refused r) = 0
+abbrev pub states_told : Result Decision Refusal → ℕ
+states_told (Ok (Decision.Found states k)) = states
+states_told (Ok (Decision.Never states)) = states
+states_told (Ok (Decision.NoRoom states)) = states
+states_told (Ok (Decision.Short states k)) = states
+states_told (Err r) = 0
 
 found_states : (b : Bool) (states : ℕ) (w : Word) → states_told (found_answer b states w) ≡ states
 found_states true states w = refl
@@ -116,7 +116,7 @@ module _ (q : Question) (r k : ℕ) where
 
 -- ---- deciding, where the bytes are accepted as q and R = decide_room q keys path rows are lent
 
-module _ (bytes : List ℕ) (keys : List ℤ) (path word : List ℕ) (q : Question) (accepted : read_held bytes ≡ record { answer = ReadAnswer.Accepted; question = q }) where
+module _ (bytes : List ℕ) (keys : List ℤ) (path word : List ℕ) (q : Question) (accepted : read_held bytes ≡ Ok q) where
   told : length (counted_rows q (decide_room q keys path)) ≡ states_told (decided bytes keys path word).answer
   told = counted_length q (decide_room q keys path) word ∙ ap states_told (sym (decided_answer bytes keys path word q accepted))
 
@@ -140,10 +140,10 @@ module _ (bytes : List ℕ) (keys : List ℤ) (path word : List ℕ) (q : Questi
 
 -- ---- building, where R = build_room q keys table rows are lent
 
-abbrev pub built_told : BuildAnswer → ℕ
-built_told (BuildAnswer.Built states) = states
-built_told (BuildAnswer.NoRoom states) = states
-built_told (BuildAnswer.Refused r) = 0
+abbrev pub built_told : Result Building Refusal → ℕ
+built_told (Ok (Building.Built states)) = states
+built_told (Ok (Building.NoRoom states)) = states
+built_told (Err r) = 0
 
 module _ (q : Question) (r : ℕ) (keys : List ℤ) (table : List ℕ) where
   built_of_keys : Filled (built_told (built_of q r keys table).answer) (atom_count q) (key_cell q r) keys (built_of q r keys table).keys
@@ -155,6 +155,6 @@ module _ (q : Question) (r : ℕ) (keys : List ℤ) (table : List ℕ) where
       room : length (rows_of q r) ≤ r → Filled (built_told (built_of q r keys table).answer) (atom_count q) (key_cell q r) keys (built_of q r keys table).keys
       room h = rw (with_room q r keys table h) (rw (take-length (rows_of q r)) at (first_keys q r (length (rows_of q r)) keys))
 
-pub built_keys : (bytes : List ℕ) (keys : List ℤ) (table : List ℕ) (q : Question) → read_held bytes ≡ record { answer = ReadAnswer.Accepted; question = q }
+pub built_keys : (bytes : List ℕ) (keys : List ℤ) (table : List ℕ) (q : Question) → read_held bytes ≡ Ok q
     → Filled (built_told (built bytes keys table).answer) (atom_count q) (key_cell q (build_room q keys table)) keys (built bytes keys table).keys
 built_keys bytes keys table q accepted = rw (built_accepted bytes keys table q accepted) (built_of_keys q (build_room q keys table) keys table)

@@ -1,5 +1,5 @@
 -- Building: the cells of a table, row by row; and what a table that has every row says of a word, run without the question.
-use Rattle.std.specs.Prelude.{◌≡◌, Bool, false, cond, List, length, get_or, T, leb}
+use Rattle.std.specs.Prelude.{◌≡◌, Bool, false, cond, List, length, get_or, T, leb, Ok}
 use Rattle.std.proofs.Math.Path.{refl, sym, ap}
 use Rattle.std.proofs.Common.{◌∙◌, mod-eq_of_lt, mul-div_cancel, div-add-mod', mod-lt, div-lt_iff_lt-mul, zero-add, le→leb, lt→ltb}
 use Rattle.std.proofs.Math.Bool.{true}
@@ -16,7 +16,7 @@ use Rattle.scope.specs.Words.{Word, letters, spelled, letters_fit, Over, over-[]
 use Rattle.scope.specs.States.{satisfied}
 use Rattle.scope.specs.Numbering.{Machine, Row, Rows, machine_of, start_row, row, after, number_of}
 use Rattle.scope.specs.Building.{table_width, next_states, table_row, table_cells}
-use Rattle.scope.specs.Running.{table_rows, cell_fits, table_fits, row_after, says_yes, truth_of, ran}
+use Rattle.scope.specs.Running.{table_rows, cell_fits, table_fits, row_after, says_yes, ran}
 use Rattle.theory.specs.Machine.Lawful.{machine_lawful}
 use Rattle.theory.specs.Machine.Prefix.{numbered_stays_le}
 use Rattle.theory.specs.Machine.Table.{numbered_rooted}
@@ -171,7 +171,7 @@ module _ (q : Question) (r : ℕ) (room : length (rows_of q r) ≤ r) where
 
   -- so on a word of its letters it is never refused, and its answer is whether the naturals that the word spells satisfy the question
   pub held_table_answers : T (variables_fit q.n) → length (rows_of q r) ≤ most_states → {w : Word} → Over (letters q.n) w
-      → ran q.n (table_of q r) w ≡ truth_of (satisfied q (spelled q.n w))
+      → ran q.n (table_of q r) w ≡ Ok (satisfied q (spelled q.n w))
   unfolding ran first_refusal
   held_table_answers v h {w} o =
       rw (is_true (variables_fit q.n) v, table_fits_lem h, is_true (letters_fit q.n w) ((letters_fit_lem q.n w).1 o), table_says o)

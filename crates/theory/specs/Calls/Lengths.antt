@@ -1,12 +1,12 @@
 -- Every lent buffer has afterwards the length that it had before, whatever the bytes: the rows counted are at most the rows lent.
-use Rattle.std.specs.Prelude.{◌≡◌, Bool, true, false, List, [], ◌∷◌, ℕ, suc, ◌*◌, ◌/◌, ◌≤◌, ◌<◌, take, leb, ℤ}
+use Rattle.std.specs.Prelude.{◌≡◌, Bool, true, false, List, [], ◌∷◌, ℕ, suc, ◌*◌, ◌/◌, ◌≤◌, ◌<◌, take, leb, ℤ, Err, Result, Ok}
 use Rattle.std.proofs.Math.Path.{refl}
 use Rattle.std.proofs.Common.{sym, ◌∙◌, mul-le-mul_right, div-mul-le_self, le_refl, get_or-take, leb→le}
 use native.Mathlib.Omega.{arith}
 use Rattle.std.proofs.Math.ListN.{length, length-take, length-map}
 use Rattle.std.proofs.Math.Seq.{take-length}
+use Rattle.scope.specs.declared.Refusal.{Refusal}
 use Rattle.scope.specs.declared.Question.{Question}
-use Rattle.scope.specs.declared.ReadAnswer.{ReadAnswer}
 use Rattle.scope.specs.Question.{atom_count}
 use Rattle.scope.specs.Refusals.{Progress, stopped, going, ended}
 use Rattle.scope.specs.Wire.{read_held}
@@ -98,27 +98,27 @@ word_length no_room l q word = refl
 module _ (bytes : List ℕ) (keys : List ℤ) (path word : List ℕ) where
   pub decided_keys_length : length (decided bytes keys path word).keys ≡ length keys
   unfolding decided decided_question
-  decided_keys_length = go (read_held bytes).answer (read_held bytes).question
+  decided_keys_length = go (read_held bytes)
     where
-      go : (a : ReadAnswer) (q : Question) → length (decided_by a q keys path word).keys ≡ length keys
-      go ReadAnswer.Accepted q = at_front_length _ keys (counted_keys q (decide_room q keys path) (length keys) (room_keys q keys path))
-      go (ReadAnswer.Refused r) q = refl
+      go : (a : Result Question Refusal) → length (decided_by a keys path word).keys ≡ length keys
+      go (Ok q) = at_front_length _ keys (counted_keys q (decide_room q keys path) (length keys) (room_keys q keys path))
+      go (Err r) = refl
 
   pub decided_path_length : length (decided bytes keys path word).path ≡ length path
   unfolding decided decided_question
-  decided_path_length = go (read_held bytes).answer (read_held bytes).question
+  decided_path_length = go (read_held bytes)
     where
-      go : (a : ReadAnswer) (q : Question) → length (decided_by a q keys path word).path ≡ length path
-      go ReadAnswer.Accepted q = at_front_length _ path (counted_path q (decide_room q keys path) (length path) (room_path q keys path))
-      go (ReadAnswer.Refused r) q = refl
+      go : (a : Result Question Refusal) → length (decided_by a keys path word).path ≡ length path
+      go (Ok q) = at_front_length _ path (counted_path q (decide_room q keys path) (length path) (room_path q keys path))
+      go (Err r) = refl
 
   pub decided_word_length : length (decided bytes keys path word).word ≡ length word
   unfolding decided decided_question
-  decided_word_length = go (read_held bytes).answer (read_held bytes).question
+  decided_word_length = go (read_held bytes)
     where
-      go : (a : ReadAnswer) (q : Question) → length (decided_by a q keys path word).word ≡ length word
-      go ReadAnswer.Accepted q = word_length (verdict_of q (decide_room q keys path)) (rows_of q (decide_room q keys path)) q word
-      go (ReadAnswer.Refused r) q = refl
+      go : (a : Result Question Refusal) → length (decided_by a keys path word).word ≡ length word
+      go (Ok q) = word_length (verdict_of q (decide_room q keys path)) (rows_of q (decide_room q keys path)) q word
+      go (Err r) = refl
 
 -- ---- building
 
@@ -152,19 +152,19 @@ module _ (q : Question) (r : ℕ) (keys : List ℤ) (table : List ℕ) where
 module _ (bytes : List ℕ) (keys : List ℤ) (table : List ℕ) where
   pub built_keys_length : length (built bytes keys table).keys ≡ length keys
   unfolding built built_question
-  built_keys_length = go (read_held bytes).answer (read_held bytes).question
+  built_keys_length = go (read_held bytes)
     where
-      go : (a : ReadAnswer) (q : Question) → length (built_by a q keys table).keys ≡ length keys
-      go ReadAnswer.Accepted q = let r = build_room q keys table in built_if_keys q r keys table (leb (length (rows_of q r)) r) refl (build_room_keys q keys table)
-      go (ReadAnswer.Refused r) q = refl
+      go : (a : Result Question Refusal) → length (built_by a keys table).keys ≡ length keys
+      go (Ok q) = let r = build_room q keys table in built_if_keys q r keys table (leb (length (rows_of q r)) r) refl (build_room_keys q keys table)
+      go (Err r) = refl
 
   pub built_table_length : length (built bytes keys table).table ≡ length table
   unfolding built built_question
-  built_table_length = go (read_held bytes).answer (read_held bytes).question
+  built_table_length = go (read_held bytes)
     where
-      go : (a : ReadAnswer) (q : Question) → length (built_by a q keys table).table ≡ length table
-      go ReadAnswer.Accepted q = let r = build_room q keys table in built_if_table q r keys table (leb (length (rows_of q r)) r) refl (build_room_table q keys table)
-      go (ReadAnswer.Refused r) q = refl
+      go : (a : Result Question Refusal) → length (built_by a keys table).table ≡ length table
+      go (Ok q) = let r = build_room q keys table in built_if_table q r keys table (leb (length (rows_of q r)) r) refl (build_room_table q keys table)
+      go (Err r) = refl
 
 -- ---- writing
 

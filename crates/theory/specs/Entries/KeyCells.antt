@@ -7,7 +7,7 @@ use mathlib.Core.List.{List, [], ◌∷◌, map}
 use Rattle.std.proofs.Math.ListN.{length}
 use Rattle.std.proofs.Math.IntN.{pos, neg_ℤ}
 use Rattle.std.specs.Int.Signed.{le_z}
-use Rattle.scope.specs.Whole.{all}
+use Rattle.std.specs.List.{list_all}
 use Rattle.scope.specs.Sizes.{most_variables, most_coefficient, most_constant, coefficient_fits, constant_fits, numbers_fit}
 use Rattle.scope.specs.declared.Question.{Question}
 use Rattle.scope.specs.Question.{Kind, Atom, nodes_of, kinds_of, coefficients_of, constant_of, atoms_from, atoms_of, atom_count}
@@ -39,17 +39,16 @@ both : (s t : Bool) → T (s && t) → T s × T t
 both true t h = (tt, h)
 both false t h = absurd h
 
-all_small : (a : List ℤ) → T (all coefficient_fits a) → Small most_coefficient a
-unfolding all
+all_small : (a : List ℤ) → T (list_all coefficient_fits a) → Small most_coefficient a
 all_small [] h = tt
 all_small (a ∷ cs) h =
-    let p : T (coefficient_fits a) × T (all coefficient_fits cs) = both (coefficient_fits a) (all coefficient_fits cs) h in
+    let p : T (coefficient_fits a) × T (list_all coefficient_fits cs) = both (coefficient_fits a) (list_all coefficient_fits cs) h in
     (leb→le (nat_abs a) most_coefficient p.0, all_small cs p.1)
 
 pub numbers_fit_lem : (a : Atom) → length a.coefficients ≤ most_variables → T (numbers_fit a.coefficients a.constant) → AtomFits a
 unfolding numbers_fit
 numbers_fit_lem a h t =
-    let p : T (all coefficient_fits a.coefficients) × T (constant_fits a.constant) = both (all coefficient_fits a.coefficients) (constant_fits a.constant) t in
+    let p : T (list_all coefficient_fits a.coefficients) × T (constant_fits a.constant) = both (list_all coefficient_fits a.coefficients) (constant_fits a.constant) t in
     record { few = h; small = all_small a.coefficients p.0; constant = leb→le (nat_abs a.constant) most_constant p.1 }
 
 variables_few : (q : Question) (i : ℕ) → length (coefficients_of q i) ≤ q.n

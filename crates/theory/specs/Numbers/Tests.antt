@@ -4,7 +4,8 @@ use Rattle.std.proofs.Common.{add-zero, add-one, arith, sym, ap, ◌∙◌, drop
 use Rattle.std.proofs.Math.Bool.{and-eq-true_iff}
 use Rattle.std.proofs.Math.Seq.{drop-cons}
 use Rattle.std.proofs.lemmas.Bool.{not-true, not-false}
-use Rattle.scope.specs.Whole.{all, all_from}
+use Rattle.scope.specs.Whole.{all_from}
+use Rattle.std.specs.List.{list_all}
 
 -- ---- a test b, known as t, by what its denial is
 
@@ -22,18 +23,16 @@ from_one k most e =
 -- ---- from an index on
 
 module _ {A : Type 0} (f : A → Bool) (l : List A) (d : A) (i : ℕ) where
-  all_at : i < length l → all f (drop i l) ≡ f (get_or l i d) && all f (drop (i + 1) l)
-  unfolding all
+  all_at : i < length l → list_all f (drop i l) ≡ f (get_or l i d) && list_all f (drop (i + 1) l)
   all_at h = rw (add-one, drop-cons l i d)
 
-  pub all_more : i < length l → f (get_or l i d) ≡ true → all f (drop i l) ≡ all f (drop (i + 1) l)
-  all_more h e = all_at h ∙ ap (λ (b : Bool). b && all f (drop (i + 1) l)) e
+  pub all_more : i < length l → f (get_or l i d) ≡ true → list_all f (drop i l) ≡ list_all f (drop (i + 1) l)
+  all_more h e = all_at h ∙ ap (λ (b : Bool). b && list_all f (drop (i + 1) l)) e
 
-  pub all_fails : i < length l → f (get_or l i d) ≡ false → all f (drop i l) ≡ false
-  all_fails h e = all_at h ∙ ap (λ (b : Bool). b && all f (drop (i + 1) l)) e
+  pub all_fails : i < length l → f (get_or l i d) ≡ false → list_all f (drop i l) ≡ false
+  all_fails h e = all_at h ∙ ap (λ (b : Bool). b && list_all f (drop (i + 1) l)) e
 
-  pub all_done : length l ≤ i → all f (drop i l) ≡ true
-  unfolding all
+  pub all_done : length l ≤ i → list_all f (drop i l) ≡ true
   all_done h = rw (drop_of_length-le l {i = i} h)
 
 module _ {A : Type 0} (f : ℕ → A → Bool) (l : List A) (d : A) (i : ℕ) where
@@ -53,11 +52,10 @@ module _ {A : Type 0} (f : ℕ → A → Bool) (l : List A) (d : A) (i : ℕ) wh
 
 -- ---- what every element passed
 
-pub all_each : {A : Type 0} (f : A → Bool) (l : List A) (d : A) → all f l ≡ true → (i : ℕ) → i < length l → f (get_or l i d) ≡ true
-unfolding all
+pub all_each : {A : Type 0} (f : A → Bool) (l : List A) (d : A) → list_all f l ≡ true → (i : ℕ) → i < length l → f (get_or l i d) ≡ true
 all_each f [] d e i h = absurd (omega arith)
-all_each f (a ∷ l) d e zero h = ((and-eq-true_iff (f a) (all f l)).0 e).0
-all_each f (a ∷ l) d e (suc i) h = all_each f l d ((and-eq-true_iff (f a) (all f l)).0 e).1 i (omega arith)
+all_each f (a ∷ l) d e zero h = ((and-eq-true_iff (f a) (list_all f l)).0 e).0
+all_each f (a ∷ l) d e (suc i) h = all_each f l d ((and-eq-true_iff (f a) (list_all f l)).0 e).1 i (omega arith)
 
 pub all_from_each : {A : Type 0} (f : ℕ → A → Bool) (k : ℕ) (l : List A) (d : A) → all_from f k l ≡ true → (i : ℕ) → i < length l → f (k + i) (get_or l i d) ≡ true
 unfolding all_from

@@ -7,7 +7,8 @@ use Rattle.std.proofs.Math.ListN.{length, set, length-map, length-replicate}
 use Rattle.std.proofs.Math.Seq.{sets}
 use Rattle.std.proofs.Math.IntN.{ℤ}
 use Rattle.scope.specs.declared.Question.{Question}
-use Rattle.scope.specs.Whole.{all, joined, at_front}
+use Rattle.scope.specs.Whole.{joined, at_front}
+use Rattle.std.specs.List.{list_all}
 use Rattle.scope.specs.Sizes.{variables_fit, numbers_fit, most_atoms, most_coefficients, most_depth, most_nodes, most_variables}
 use Rattle.scope.specs.Question.{Kind, equation, Node, unused, node_of, code_of, is_atom, nodes_of, kinds_of, Atom, atoms_from, atoms_of, coefficients_of, constant_of}
 use Rattle.scope.specs.Wire.{Shape, noted}
@@ -25,7 +26,7 @@ pub record TreeLimits (n : ℕ) (t : Tree) : Type 0 where
   pub nodes : length (nodes_in t) ≤ most_nodes
   pub atoms : length (atoms_in t) ≤ most_atoms
   pub depth : depth_of t ≤ most_depth
-  pub numbers : T (all (atom_fits n) (atoms_in t))
+  pub numbers : T (list_all (atom_fits n) (atoms_in t))
 
 pub tree_limits : (n : ℕ) (t : Tree) → T (within_limits n t) ↔ TreeLimits n t
 unfolding within_limits
@@ -41,7 +42,7 @@ tree_limits n t = (facts, tests)
     depth = leb (depth_of t) most_depth
 
     numbers : Bool
-    numbers = all (atom_fits n) (atoms_in t)
+    numbers = list_all (atom_fits n) (atoms_in t)
 
     facts : T (variables_fit n && (nodes && (atoms && (depth && numbers)))) → TreeLimits n t
     facts h =
@@ -78,16 +79,15 @@ some_depth (Tree.not t) = omega arith
 some_depth (Tree.and t u) = omega arith
 some_depth (Tree.or t u) = omega arith
 
-all_append : {A : Type 0} (f : A → Bool) (l k : List A) → T (all f (l ++ k)) ↔ (T (all f l) × T (all f k))
-unfolding all
+all_append : {A : Type 0} (f : A → Bool) (l k : List A) → T (list_all f (l ++ k)) ↔ (T (list_all f l) × T (list_all f k))
 all_append f [] k = (λ h. (tt, h), λ h. h.1)
 all_append f (x ∷ l) k = (
-  λ h. let r = (all_append f l k).0 (and_second (f x) (all f (l ++ k)) h) in (and_both (f x) (all f l) (and_first (f x) (all f (l ++ k)) h) r.0, r.1),
-  λ h. and_both (f x) (all f (l ++ k)) (and_first (f x) (all f l) h.0) ((all_append f l k).1 (and_second (f x) (all f l) h.0, h.1)),
+  λ h. let r = (all_append f l k).0 (and_second (f x) (list_all f (l ++ k)) h) in (and_both (f x) (list_all f l) (and_first (f x) (list_all f (l ++ k)) h) r.0, r.1),
+  λ h. and_both (f x) (list_all f (l ++ k)) (and_first (f x) (list_all f l) h.0) ((all_append f l k).1 (and_second (f x) (list_all f l) h.0, h.1)),
 )
 
-pub tree_fits : (n depth : ℕ) (t : Tree) → (depth + depth_of t ≤ 17) → T (all (atom_fits n) (atoms_in t)) → Fits n depth t
-unfolding depth_of atoms_in all atom_fits
+pub tree_fits : (n depth : ℕ) (t : Tree) → (depth + depth_of t ≤ 17) → T (list_all (atom_fits n) (atoms_in t)) → Fits n depth t
+unfolding depth_of atoms_in atom_fits
 tree_fits n depth (Tree.atom a) d h =
     let f = and_first (atom_fits n a) true h in
     let count = eqb (length a.coefficients) n in
@@ -97,8 +97,8 @@ tree_fits n depth (Tree.not t) d h = tree_fits n (depth + 1) t (omega arith) h
 tree_fits n depth (Tree.and t u) d h = let r = (all_append (atom_fits n) (atoms_in t) (atoms_in u)).0 h in (tree_fits n (depth + 1) t (omega arith) r.0, tree_fits n (depth + 1) u (omega arith) r.1)
 tree_fits n depth (Tree.or t u) d h = let r = (all_append (atom_fits n) (atoms_in t) (atoms_in u)).0 h in (tree_fits n (depth + 1) t (omega arith) r.0, tree_fits n (depth + 1) u (omega arith) r.1)
 
-pub fits_tree : (n depth : ℕ) (t : Tree) → Fits n depth t → (depth + depth_of t ≤ 17) × T (all (atom_fits n) (atoms_in t))
-unfolding depth_of atoms_in all atom_fits
+pub fits_tree : (n depth : ℕ) (t : Tree) → Fits n depth t → (depth + depth_of t ≤ 17) × T (list_all (atom_fits n) (atoms_in t))
+unfolding depth_of atoms_in atom_fits
 fits_tree n depth (Tree.atom a) f =
     let count = eqb (length a.coefficients) n in
     let numbers = numbers_fit a.coefficients a.constant in

@@ -1,12 +1,10 @@
 -- Bytes that are accepted are the bytes of a tree within the limits; so they are accepted exactly if they are.
-use Rattle.std.specs.Prelude.{◌≡◌, refl, ◌↔◌, not, ℕ, ◌+◌, ◌≤◌, T, drop, ℤ}
+use Rattle.std.specs.Prelude.{◌≡◌, refl, ◌↔◌, not, ℕ, ◌+◌, ◌≤◌, T, drop, ℤ, Ok, IsOk, is_ok}
 use Rattle.std.proofs.Math.Path.{sym, ap, subst}
 use Rattle.std.proofs.Common.{◌∙◌, arith, le→leb, length-append, length-drop, take_all, get_or-drop}
 use Rattle.std.proofs.Math.Bool.{cond}
 use mathlib.Core.List.{List, [], ◌∷◌, ◌++◌, append_assoc, append-nil}
 use Rattle.std.proofs.Math.ListN.{length, take, replicate}
-use Rattle.scope.specs.declared.ReadAnswer.{ReadAnswer}
-use Rattle.scope.specs.declared.Held.{Held}
 use Rattle.scope.specs.Sizes.{numbers_fit, most_depth, most_nodes}
 use Rattle.scope.specs.Question.{Node, unused, atom, is_unused, is_atom, parts}
 use Rattle.scope.specs.Wire.{Reading, Ended, grown, kind_of, kind_at, length_at, byte_at, body_length, head_kind, end_kind, record_read, read_held, node_at, coefficients_at, constant_at, after_head}
@@ -133,7 +131,7 @@ module _ (b : List ℕ) (o : Octets b) (s r : Reading) (st : NodeStep b s r) whe
 
 -- ---- the head, and the end
 
-pub question_read : (b : List ℕ) (q : IsQuestion b) → read_held b ≡ record { answer = ReadAnswer.Accepted; question = held_as q.n q.tree }
+pub question_read : (b : List ℕ) (q : IsQuestion b) → read_held b ≡ Ok (held_as q.n q.tree)
 question_read b q = ap read_held q.bytes_are ∙ tree_read q.n q.tree q.within
 
 module _ (b : List ℕ) (o : Octets b) where
@@ -156,7 +154,7 @@ module _ (b : List ℕ) (o : Octets b) where
   }
   opens_head h (t ∷ u ∷ ts) f = absurd f.1
 
-  pub accepted_tree : (read_held b).answer ≡ ReadAnswer.Accepted → IsQuestion b
+  pub accepted_tree : IsOk (read_held b) → IsQuestion b
   unfolding question_bytes
   accepted_tree e =
       let a : AcceptedWhole b = accepted_whole b e in
@@ -194,5 +192,5 @@ module _ (b : List ℕ) (o : Octets b) where
           }
 
   -- bytes are accepted exactly if they are a question's
-  pub accepted_iff_question : ((read_held b).answer ≡ ReadAnswer.Accepted) ↔ IsQuestion b
-  accepted_iff_question = (accepted_tree, λ q. ap (λ (h : Held). h.answer) (question_read b q))
+  pub accepted_iff_question : (IsOk (read_held b)) ↔ IsQuestion b
+  accepted_iff_question = (accepted_tree, λ q. ap is_ok (question_read b q))

@@ -1,5 +1,5 @@
 -- The bytes of every tree within the limits are accepted, and read as its held value.
-use Rattle.std.specs.Prelude.{◌≡◌, Bool, true, false, not, T}
+use Rattle.std.specs.Prelude.{◌≡◌, Bool, true, false, not, T, Ok}
 use Rattle.std.proofs.Math.Path.{refl, sym, ap}
 use Rattle.std.proofs.Common.{◌∙◌, subst, true≢false, arith, length-drop, drop-drop}
 use Rattle.std.proofs.Math.Bool.{cond}
@@ -9,7 +9,6 @@ use Rattle.std.proofs.Math.ListN.{length, drop, replicate, length-append}
 use Rattle.std.proofs.Math.Seq.{drop_at}
 use Rattle.std.proofs.Math.IntN.{ℤ}
 use Rattle.scope.specs.declared.Question.{Question}
-use Rattle.scope.specs.declared.ReadAnswer.{ReadAnswer}
 use Rattle.scope.specs.Whole.{joined, at_front}
 use Rattle.scope.specs.Sizes.{numbers_fit, most_atoms, most_depth, most_nodes, most_variables}
 use Rattle.scope.specs.Question.{Node, Atom, is_unused, is_atom, parts}
@@ -285,7 +284,7 @@ module _ (n : ℕ) (t : Tree) (within : T (within_limits n t)) where
   nothing_held = record { question = refl; nodes = refl; atoms = refl; narrow = tt }
 
   -- so every tree within the limits is accepted, as its held value
-  pub tree_read : read_held b ≡ record { answer = ReadAnswer.Accepted; question = held_as n t }
+  pub tree_read : read_held b ≡ Ok (held_as n t)
   unfolding question_bytes
   tree_read =
       let p = formula in
@@ -307,4 +306,4 @@ module _ (n : ℕ) (t : Tree) (within : T (within_limits n t)) where
       let len = sym (length-drop s.place b) ∙ ap length p.stands in
       let h = p.held [] [] nothing_held in
       ended_held b (after_end s) read (omega (arith, len))
-      ∙ ap (λ (q : Question). record { answer = ReadAnswer.Accepted; question = q }) (h.question ∙ ap (λ (m : ℕ). held_by m (nodes_in t) (atoms_in t)) p.n)
+      ∙ ap (λ (q : Question). Ok q) (h.question ∙ ap (λ (m : ℕ). held_by m (nodes_in t) (atoms_in t)) p.n)

@@ -1,10 +1,9 @@
 -- A held value is written exactly if it is a question's, and its bytes are then those of the tree.
-use Rattle.std.specs.Prelude.{◌≡◌, true, List, [], ◌∷◌, ◌++◌, ℕ, ◌<◌, T}
+use Rattle.std.specs.Prelude.{◌≡◌, true, List, [], ◌∷◌, ◌++◌, ℕ, ◌<◌, T, is_ok}
 use Rattle.std.proofs.Common.{sym, ap, ◌∙◌, subst, arith}
 use Rattle.scope.specs.declared.Question.{Question}
-use Rattle.scope.specs.declared.Held.{Held}
 use Rattle.scope.specs.Refusals.{ended}
-use Rattle.scope.specs.Wire.{head_kind, end_kind, kind_of}
+use Rattle.scope.specs.Wire.{head_kind, end_kind, kind_of, question_held}
 use Rattle.scope.specs.Writing.{record_bytes, atom_body, Walk, written}
 use Rattle.scope.specs.Question.{Node}
 use Rattle.scope.specs.Tree.{Tree, within_limits, tree_bytes, question_bytes, held_as, IsHeld}
@@ -43,9 +42,9 @@ pub record WrittenAs (q : Question) (bytes : List ℕ) : Type 0 where
 pub written_question : (q : Question) (w : Walk) → Sized q → written q ≡ ended w → WrittenAs q w.bytes
 written_question q w z e =
     let r = read_written q w z e in
-    let t = accepted_tree w.bytes (written_octets q w e) (ap (λ (h : Held). h.answer) r) in
+    let t = accepted_tree w.bytes (written_octets q w e) (ap is_ok r) in
     record {
-      held = record { n = t.n; tree = t.tree; within = t.within; held_is = ap (λ (h : Held). h.question) (sym r ∙ question_read w.bytes t) };
+      held = record { n = t.n; tree = t.tree; within = t.within; held_is = ap question_held (sym r ∙ question_read w.bytes t) };
       bytes_are = t.bytes_are;
     }
 
@@ -53,5 +52,5 @@ pub held_written : (n : ℕ) (t : Tree) → T (within_limits n t) → (w : Walk)
 held_written n t within =
     let r = tree_read n t within in
     let b : WrittenBack (question_bytes n t) (held_as n t) =
-    subst (WrittenBack (question_bytes n t)) (ap (λ (h : Held). h.question) r) (written_read (question_bytes n t) (question_octets n t within) (ap (λ (h : Held). h.answer) r)) in
+    subst (WrittenBack (question_bytes n t)) (ap question_held r) (written_read (question_bytes n t) (question_octets n t within) (ap is_ok r)) in
     (b.walk, b.written, b.bytes)

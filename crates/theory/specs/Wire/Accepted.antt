@@ -1,13 +1,12 @@
 -- What holds of every held question that was read.
-use Rattle.std.specs.Prelude.{◌≡◌, List, [], ℕ, ◌≤◌, ◌<◌, ◌+◌, T, length}
+use Rattle.std.specs.Prelude.{◌≡◌, List, [], ℕ, ◌≤◌, ◌<◌, ◌+◌, T, length, Ok, Result, IsOk, is_ok}
 use Rattle.std.proofs.Common.{sym, ap, subst, arith}
+use Rattle.scope.specs.declared.Refusal.{Refusal}
 use Rattle.scope.specs.declared.Question.{Question}
-use Rattle.scope.specs.declared.ReadAnswer.{ReadAnswer}
 use Rattle.scope.specs.Sizes.{numbers_fit, variables_fit, most_atoms, most_nodes, most_variables}
 use Rattle.scope.specs.Question.{nodes_of, kinds_of, coefficients_of, constant_of}
 use Rattle.scope.specs.Refusals.{ended}
-use Rattle.scope.specs.Wire.{Shape, Reading, Ended, record_read, read_from, read_held, after_head}
-use Rattle.scope.specs.declared.Held.{Held}
+use Rattle.scope.specs.Wire.{Shape, Reading, Ended, record_read, read_from, read_held, after_head, question_held}
 use Rattle.theory.specs.Wire.Lockstep.{kept_onward}
 use Rattle.theory.specs.Wire.Held.{Sized}
 use Rattle.theory.specs.Wire.ReadingSteps.{EndStep, going_record, ended_record}
@@ -51,13 +50,13 @@ sound_within q r =
       numbers = λ i h. r.sound.fits i (rw r.sound.kinds at h);
     }
 
-accepted_sound : (b : List ℕ) → (read_held b).answer ≡ ReadAnswer.Accepted → ReadSound (read_held b).question
+accepted_sound : (b : List ℕ) → IsOk (read_held b) → ReadSound (question_held (read_held b))
 accepted_sound b e =
     let a : AcceptedWhole b = accepted_whole b e in
     subst ReadSound (sym a.question) (read_sound b 0 a.last (whole_read_lem b 0 a.last a.whole))
 
-pub accepted_within : (b : List ℕ) → (read_held b).answer ≡ ReadAnswer.Accepted → WithinLimits (read_held b).question
-accepted_within b e = sound_within (read_held b).question (accepted_sound b e)
+pub accepted_within : (b : List ℕ) → IsOk (read_held b) → WithinLimits (question_held (read_held b))
+accepted_within b e = sound_within (question_held (read_held b)) (accepted_sound b e)
 
-pub accepted_variables : (b : List ℕ) (q : Question) → read_held b ≡ record { answer = ReadAnswer.Accepted; question = q } → T (variables_fit q.n)
-accepted_variables b q e = subst (λ (h : Held). T (variables_fit h.question.n)) e (accepted_sound b (ap (λ (h : Held). h.answer) e)).sound.variables
+pub accepted_variables : (b : List ℕ) (q : Question) → read_held b ≡ Ok q → T (variables_fit q.n)
+accepted_variables b q e = subst (λ (h : Result Question Refusal). T (variables_fit (question_held h).n)) e (accepted_sound b (ap is_ok e)).sound.variables

@@ -1,13 +1,12 @@
 -- The answer of reading, case by case; how long accepted bytes can be; and how many atoms a held question has.
-use Rattle.std.specs.Prelude.{◌≡◌, refl, ◌↔◌, ◌⊎◌, Bool, true, false, cond, List, [], ◌∷◌, ℕ, suc, ◌+◌, ◌*◌, ◌≤◌, ◌<◌, T, leb, length}
+use Rattle.std.specs.Prelude.{◌≡◌, refl, ◌↔◌, ◌⊎◌, Bool, true, false, cond, List, [], ◌∷◌, ℕ, suc, ◌+◌, ◌*◌, ◌≤◌, ◌<◌, T, leb, length, Ok, Err, IsOk}
 use Rattle.std.proofs.Common.{sym, ap, ◌∙◌, subst, ⊎_elim, arith, leb→le}
+use Rattle.scope.specs.declared.Rule.{Rule}
 use Rattle.scope.specs.declared.Question.{Question}
 use Rattle.scope.specs.declared.Refusal.{Refusal}
-use Rattle.scope.specs.declared.ReadAnswer.{ReadAnswer}
-use Rattle.scope.specs.declared.Held.{Held}
 use Rattle.scope.specs.Question.{Kind, is_atom, empty_question, nodes_of, kinds_of, atoms_from, atoms_of, atom_count}
-use Rattle.scope.specs.Refusals.{LEFT_OVER, check, refusal, Progress, stopped, ended}
-use Rattle.scope.specs.Wire.{grown, body_length, Reading, Ended, record_read, read_from, whole_read, held_of, read_held, node_at, after_head, whole_checks}
+use Rattle.scope.specs.Refusals.{check, refusal, Progress, stopped, ended}
+use Rattle.scope.specs.Wire.{grown, body_length, Reading, Ended, record_read, read_from, whole_read, held_of, read_held, node_at, after_head, whole_checks, question_held}
 use Rattle.scope.specs.Sizes.{most_nodes, most_variables, most_bytes}
 use Rattle.theory.specs.Wire.Checks.{failing_stops}
 use Rattle.theory.specs.Wire.Lockstep.{kept_onward}
@@ -18,42 +17,36 @@ use Rattle.theory.specs.Wire.Stopped.{StoppedAt, at_stopped, LeftBytes, refused_
 
 -- ---- the three cases
 
-abbrev pub refused_held : Refusal → Held
-refused_held r = record { answer = ReadAnswer.Refused r; question = empty_question }
-
-stopped_held : (b : List ℕ) (r : Refusal) → read_from b 0 ≡ stopped r → read_held b ≡ refused_held r
+stopped_held : (b : List ℕ) (r : Refusal) → read_from b 0 ≡ stopped r → read_held b ≡ Err r
 unfolding read_held whole_read
 stopped_held b r e = ap (λ (p : Progress Reading Ended). held_of (whole_read b p)) e
 
-pub ended_held : (b : List ℕ) (e : Ended) → read_from b 0 ≡ ended e → length b ≤ e.next → read_held b ≡ record { answer = ReadAnswer.Accepted; question = e.question }
+pub ended_held : (b : List ℕ) (e : Ended) → read_from b 0 ≡ ended e → length b ≤ e.next → read_held b ≡ Ok e.question
 ended_held b e x h = whole_accepted b e (read_whole b 0 e x) h
 
-left_held : (b : List ℕ) (e : Ended) → read_from b 0 ≡ ended e → e.next < length b → read_held b ≡ refused_held (refusal LEFT_OVER e.next)
+left_held : (b : List ℕ) (e : Ended) → read_from b 0 ≡ ended e → e.next < length b → read_held b ≡ Err (refusal Rule.LeftOver e.next)
 unfolding read_held whole_read
 left_held b e x h =
     ap (λ (p : Progress Reading Ended). held_of (whole_read b p)) x
     ∙ ap held_of
-    (failing_stops (whole_checks b e.next) (ended e) (refusal LEFT_OVER e.next)
-    (record { before = []; failing = check LEFT_OVER e.next (leb (length b) e.next); after = []; order = refl; earlier = tt; failed = fails (leb (length b) e.next) (leb→le (length b) e.next); told = refl }))
+    (failing_stops (whole_checks b e.next) (ended e) (refusal Rule.LeftOver e.next)
+    (record { before = []; failing = check Rule.LeftOver e.next (leb (length b) e.next); after = []; order = refl; earlier = tt; failed = fails (leb (length b) e.next) (leb→le (length b) e.next); told = refl }))
   where
     fails : (t : Bool) → (T t → length b ≤ e.next) → t ≡ false
     fails true f = absurd (omega (arith, f tt))
     fails false f = refl
 
-pub refused_iff : (b : List ℕ) (r : Refusal) → ((read_held b).answer ≡ ReadAnswer.Refused r) ↔ (StoppedAt b 0 r ⊎ LeftBytes b r)
+pub refused_iff : (b : List ℕ) (r : Refusal) → (read_held b ≡ Err r) ↔ (StoppedAt b 0 r ⊎ LeftBytes b r)
 refused_iff b r = (
   refused_at_lem b r,
   ⊎_elim
-      (λ s. ap (λ (h : Held). h.answer) (stopped_held b r (at_stopped b 0 r s)))
-      (λ l. ap (λ (h : Held). h.answer) (left_held b l.last l.read l.left) ∙ ap ReadAnswer.Refused (sym l.told)),
+      (λ s. stopped_held b r (at_stopped b 0 r s))
+      (λ l. left_held b l.last l.read l.left ∙ ap Err (sym l.told)),
 )
 
 -- refused bytes leave the empty question
-pub refused_empty : (b : List ℕ) (r : Refusal) → (read_held b).answer ≡ ReadAnswer.Refused r → (read_held b).question ≡ empty_question
-refused_empty b r e = ⊎_elim
-    (λ s. ap (λ (h : Held). h.question) (stopped_held b r (at_stopped b 0 r s)))
-    (λ l. ap (λ (h : Held). h.question) (left_held b l.last l.read l.left))
-    (refused_at_lem b r e)
+pub refused_empty : (b : List ℕ) (r : Refusal) → read_held b ≡ Err r → question_held (read_held b) ≡ empty_question
+refused_empty b r e = ap question_held e
 
 -- ---- the length: a head, 64 nodes, the bodies of 8 atoms, an end
 
@@ -80,7 +73,7 @@ read_short b at e x =
     omega (arith, ap (λ (u : Ended). u.next) st.after, h.1, h.0.formed.nodes, h.0.formed.atoms))
     (most_nodes + 1) (after_head b at) (sound_head b at g.head, omega arith) g.walk
 
-pub accepted_short : (b : List ℕ) → (read_held b).answer ≡ ReadAnswer.Accepted → length b ≤ most_bytes
+pub accepted_short : (b : List ℕ) → IsOk (read_held b) → length b ≤ most_bytes
 accepted_short b x =
     let a : AcceptedWhole b = accepted_whole b x in
     omega (arith, read_short b 0 a.last (whole_read_lem b 0 a.last a.whole), a.all_read)

@@ -7,6 +7,7 @@ use Rattle.std.proofs.Math.Option.{Option, none, some}
 use Prim.Native.Nat.{ℕ, zero, suc}
 use Rattle.std.specs.Float.Ieee.Bits.{is_true}
 use Rattle.scope.specs.declared.Refusal.{Refusal}
+use Rattle.scope.specs.declared.Rule.{Rule}
 use Rattle.scope.specs.Refusals.{Check, refusal, unless_passed, first_refusal, Progress, stopped, going, ended, or_stopped, onward}
 
 -- ---- tests
@@ -51,7 +52,7 @@ pub none_passed : (cs : List Check) → first_refusal cs ≡ none → Passed cs
 unfolding first_refusal
 none_passed [] e = tt
 none_passed (c ∷ cs) e =
-    let h : T c.passed × (first_refusal cs ≡ none) = none_cons c.passed (refusal c.number c.place) (first_refusal cs) e in
+    let h : T c.passed × (first_refusal cs ≡ none) = none_cons c.passed (refusal c.rule c.place) (first_refusal cs) e in
     (h.0, none_passed cs h.1)
 
 pub none_iff_passed : (cs : List Check) → (first_refusal cs ≡ none) ↔ Passed cs
@@ -66,11 +67,11 @@ pub record FirstFailing (cs : List Check) (r : Refusal) : Type 0 where
   pub order : cs ≡ before ++ (failing ∷ after)
   pub earlier : Passed before
   pub failed : failing.passed ≡ false
-  pub told : r ≡ refusal failing.number failing.place
+  pub told : r ≡ refusal failing.rule failing.place
 
 some_cons : (c : Check) (cs : List Check) (r : Refusal) (t : Bool) → c.passed ≡ t
     → (first_refusal cs ≡ some r → FirstFailing cs r)
-    → unless_passed t (refusal c.number c.place) (first_refusal cs) ≡ some r → FirstFailing (c ∷ cs) r
+    → unless_passed t (refusal c.rule c.place) (first_refusal cs) ≡ some r → FirstFailing (c ∷ cs) r
 some_cons c cs r true t rest e =
     let f : FirstFailing cs r = rest e in
     record {
@@ -92,7 +93,7 @@ some_failing (c ∷ cs) r e = some_cons c cs r c.passed refl (some_failing cs r)
 
 -- a check fails behind others that were passed
 pub failing_at : (before : List Check) (c : Check) (after : List Check) → Passed before → c.passed ≡ false
-    → first_refusal (before ++ (c ∷ after)) ≡ some (refusal c.number c.place)
+    → first_refusal (before ++ (c ∷ after)) ≡ some (refusal c.rule c.place)
 unfolding first_refusal
 failing_at [] c after p f = rw f
 failing_at (b ∷ before) c after p f = rw (is_true b.passed p.0) (failing_at before c after p.1 f)
@@ -106,8 +107,8 @@ some_iff_failing cs r = (some_failing cs r, failing_some cs r)
 -- a check of the one list fails, or those are passed and one of the other fails
 failing_cons : (c : Check) (cs ds : List Check) (r : Refusal) (t : Bool) → c.passed ≡ t
     → (first_refusal (cs ++ ds) ≡ some r → (first_refusal cs ≡ some r) ⊎ (Passed cs × (first_refusal ds ≡ some r)))
-    → unless_passed t (refusal c.number c.place) (first_refusal (cs ++ ds)) ≡ some r
-    → (unless_passed t (refusal c.number c.place) (first_refusal cs) ≡ some r) ⊎ ((T c.passed × Passed cs) × (first_refusal ds ≡ some r))
+    → unless_passed t (refusal c.rule c.place) (first_refusal (cs ++ ds)) ≡ some r
+    → (unless_passed t (refusal c.rule c.place) (first_refusal cs) ≡ some r) ⊎ ((T c.passed × Passed cs) × (first_refusal ds ≡ some r))
 failing_cons c cs ds r true h rest e = ⊎_elim (λ x. inl x) (λ p. inr ((rw h tt, p.0), p.1)) (rest e)
 failing_cons c cs ds r false h rest e = inl e
 
@@ -122,16 +123,16 @@ passed_append [] ds p = refl
 passed_append (c ∷ cs) ds p = rw (is_true c.passed p.0) (passed_append cs ds p.1)
 
 -- what holds of the number of every check holds of a refusal's
-abbrev pub EveryNumber : (ℕ → Type 0) → List Check → Type 0
-EveryNumber P [] = Unit {0}
-EveryNumber P (c ∷ cs) = P c.number × EveryNumber P cs
+abbrev pub EveryRule : (Rule → Type 0) → List Check → Type 0
+EveryRule P [] = Unit {0}
+EveryRule P (c ∷ cs) = P c.rule × EveryRule P cs
 
-numbered_at : (P : ℕ → Type 0) (before : List Check) (c : Check) (after : List Check) → EveryNumber P (before ++ (c ∷ after)) → P c.number
+numbered_at : (P : Rule → Type 0) (before : List Check) (c : Check) (after : List Check) → EveryRule P (before ++ (c ∷ after)) → P c.rule
 numbered_at P [] c after n = n.0
 numbered_at P (b ∷ before) c after n = numbered_at P before c after n.1
 
-pub failing_numbered : (P : ℕ → Type 0) (cs : List Check) (r : Refusal) → EveryNumber P cs → FirstFailing cs r → P r.number
-failing_numbered P cs r n f = rw f.told (numbered_at P f.before f.failing f.after (subst (EveryNumber P) f.order n))
+pub failing_numbered : (P : Rule → Type 0) (cs : List Check) (r : Refusal) → EveryRule P cs → FirstFailing cs r → P r.rule
+failing_numbered P cs r n f = rw f.told (numbered_at P f.before f.failing f.after (subst (EveryRule P) f.order n))
 
 -- ---- progress
 

@@ -10,35 +10,36 @@ use Prim.Native.Nat.{ℕ, zero, suc, ◌+◌, ◌*◌, ◌≤◌, ◌<◌}
 use native.Mathlib.Omega.{arith}
 use Rattle.std.specs.Float.Ieee.Bits.{is_true}
 use Rattle.std.proofs.Math.ListN.{length}
+use Rattle.scope.specs.declared.Rule.{Rule}
 use Rattle.scope.specs.declared.Refusal.{Refusal}
-use Rattle.scope.specs.Whole.{all}
+use Rattle.std.specs.List.{list_all}
 use Rattle.scope.specs.Sizes.{coefficient_fits, constant_fits, numbers_fit}
-use Rattle.scope.specs.Refusals.{COEFFICIENT_BEYOND, CONSTANT_BEYOND, check, refusal, unless_passed, first_refusal}
+use Rattle.scope.specs.Refusals.{check, refusal, unless_passed, first_refusal}
 use Rattle.scope.specs.Wire.{field_checks}
 use Rattle.theory.specs.Numbers.Tests.{all_each}
-use Rattle.theory.specs.Wire.Checks.{Passed, EveryNumber, and_first, and_second, and_both}
+use Rattle.theory.specs.Wire.Checks.{Passed, EveryRule, and_first, and_second, and_both}
 
 -- ---- every number is within its limit
 
 passed_fields : (place apart : ℕ) (cs : List ℤ) (k : ℤ) → Passed (field_checks place apart cs k) → T (numbers_fit cs k)
-unfolding numbers_fit field_checks all
+unfolding numbers_fit field_checks
 passed_fields place apart [] k p = p.0
 passed_fields place apart (a ∷ cs) k p =
     let t = passed_fields (place + apart) apart cs k p.1 in
-    and_both (coefficient_fits a && all coefficient_fits cs) (constant_fits k)
-    (and_both (coefficient_fits a) (all coefficient_fits cs) p.0 (and_first (all coefficient_fits cs) (constant_fits k) t))
-    (and_second (all coefficient_fits cs) (constant_fits k) t)
+    and_both (coefficient_fits a && list_all coefficient_fits cs) (constant_fits k)
+    (and_both (coefficient_fits a) (list_all coefficient_fits cs) p.0 (and_first (list_all coefficient_fits cs) (constant_fits k) t))
+    (and_second (list_all coefficient_fits cs) (constant_fits k) t)
 
 fields_passed : (place apart : ℕ) (cs : List ℤ) (k : ℤ) → T (numbers_fit cs k) → Passed (field_checks place apart cs k)
-unfolding numbers_fit field_checks all
+unfolding numbers_fit field_checks
 fields_passed place apart [] k t = (t, tt)
 fields_passed place apart (a ∷ cs) k t =
-    let row = and_first (coefficient_fits a && all coefficient_fits cs) (constant_fits k) t in (
-      and_first (coefficient_fits a) (all coefficient_fits cs) row,
+    let row = and_first (coefficient_fits a && list_all coefficient_fits cs) (constant_fits k) t in (
+      and_first (coefficient_fits a) (list_all coefficient_fits cs) row,
       fields_passed (place + apart) apart cs k
-          (and_both (all coefficient_fits cs) (constant_fits k)
-          (and_second (coefficient_fits a) (all coefficient_fits cs) row)
-          (and_second (coefficient_fits a && all coefficient_fits cs) (constant_fits k) t)),
+          (and_both (list_all coefficient_fits cs) (constant_fits k)
+          (and_second (coefficient_fits a) (list_all coefficient_fits cs) row)
+          (and_second (coefficient_fits a && list_all coefficient_fits cs) (constant_fits k) t)),
     )
 
 -- and where there is no atom, no number is looked at
@@ -69,7 +70,7 @@ fit_more a cs j t f = record { most = omega (arith, f.most); earlier = before; b
     before (suc i) h = f.earlier i (omega arith)
 
 module _ (apart : ℕ) (k : ℤ) where
-  pub coefficient_refused : (place : ℕ) (cs : List ℤ) (j : ℕ) → FitTo cs j → j < length cs → first_refusal (field_checks place apart cs k) ≡ some (refusal COEFFICIENT_BEYOND (place + apart * j))
+  pub coefficient_refused : (place : ℕ) (cs : List ℤ) (j : ℕ) → FitTo cs j → j < length cs → first_refusal (field_checks place apart cs k) ≡ some (refusal Rule.CoefficientBeyond (place + apart * j))
   unfolding first_refusal field_checks
   coefficient_refused place [] j f h = absurd (omega arith)
   coefficient_refused place (a ∷ cs) zero f h = let z : place + apart * 0 ≡ place = omega arith in rw (f.beyond h, z)
@@ -77,7 +78,7 @@ module _ (apart : ℕ) (k : ℤ) where
       let z : place + apart * suc j ≡ place + apart + apart * j = omega arith in
       rw (is_true (coefficient_fits a) (f.earlier 0 (omega arith)), z) (coefficient_refused (place + apart) cs j (fit_tail a cs j f) (omega arith))
 
-  pub constant_left : (place : ℕ) (cs : List ℤ) (j : ℕ) → FitTo cs j → length cs ≤ j → first_refusal (field_checks place apart cs k) ≡ first_refusal (check CONSTANT_BEYOND (place + apart * length cs) (constant_fits k) ∷ [])
+  pub constant_left : (place : ℕ) (cs : List ℤ) (j : ℕ) → FitTo cs j → length cs ≤ j → first_refusal (field_checks place apart cs k) ≡ first_refusal (check Rule.ConstantBeyond (place + apart * length cs) (constant_fits k) ∷ [])
   unfolding first_refusal field_checks
   constant_left place [] j f h = let z : place + apart * 0 ≡ place = omega arith in rw z
   constant_left place (a ∷ cs) zero f h = absurd (omega arith)
@@ -92,13 +93,13 @@ pub record NamesCoefficient (place apart : ℕ) (cs : List ℤ) (ρ : Refusal) :
   pub index : ℕ
   pub there : index < length cs
   pub first : FitTo cs index
-  pub told : ρ ≡ refusal COEFFICIENT_BEYOND (place + apart * index)
+  pub told : ρ ≡ refusal Rule.CoefficientBeyond (place + apart * index)
 
 -- the constant: every coefficient is within its limit
 pub record NamesConstant (place apart : ℕ) (cs : List ℤ) (k : ℤ) (ρ : Refusal) : Type 0 where
   pub first : FitTo cs (length cs)
   pub beyond : constant_fits k ≡ false
-  pub told : ρ ≡ refusal CONSTANT_BEYOND (place + apart * length cs)
+  pub told : ρ ≡ refusal Rule.ConstantBeyond (place + apart * length cs)
 
 abbrev pub NamesNumber : ℕ → ℕ → List ℤ → ℤ → Refusal → Type 0
 NamesNumber place apart cs k ρ = NamesCoefficient place apart cs ρ ⊎ NamesConstant place apart cs k ρ
@@ -110,35 +111,35 @@ module _ (apart : ℕ) (k : ℤ) where
   named_behind place a cs ρ t = ⊎_elim
       (λ c.
       let z : place + apart + apart * c.index ≡ place + apart * suc c.index = omega arith in
-      inl (record { index = suc c.index; there = omega (arith, c.there); first = fit_more a cs c.index t c.first; told = c.told ∙ ap (refusal COEFFICIENT_BEYOND) z }))
+      inl (record { index = suc c.index; there = omega (arith, c.there); first = fit_more a cs c.index t c.first; told = c.told ∙ ap (refusal Rule.CoefficientBeyond) z }))
       (λ c.
       let z : place + apart + apart * length cs ≡ place + apart * suc (length cs) = omega arith in
-      inr (record { first = fit_more a cs (length cs) t c.first; beyond = c.beyond; told = c.told ∙ ap (refusal CONSTANT_BEYOND) z }))
+      inr (record { first = fit_more a cs (length cs) t c.first; beyond = c.beyond; told = c.told ∙ ap (refusal Rule.ConstantBeyond) z }))
 
   named_cons : (place : ℕ) (a : ℤ) (cs : List ℤ) (ρ : Refusal) (t : Bool) → coefficient_fits a ≡ t
       → (first_refusal (field_checks (place + apart) apart cs k) ≡ some ρ → NamesNumber (place + apart) apart cs k ρ)
-      → unless_passed t (refusal COEFFICIENT_BEYOND place) (first_refusal (field_checks (place + apart) apart cs k)) ≡ some ρ
+      → unless_passed t (refusal Rule.CoefficientBeyond place) (first_refusal (field_checks (place + apart) apart cs k)) ≡ some ρ
       → NamesNumber place apart (a ∷ cs) k ρ
   named_cons place a cs ρ true h rest e = named_behind place a cs ρ (rw h tt) (rest e)
   named_cons place a cs ρ false h rest e =
       let z : place ≡ place + apart * 0 = omega arith in
-      let r : ρ ≡ refusal COEFFICIENT_BEYOND place = cc in
+      let r : ρ ≡ refusal Rule.CoefficientBeyond place = cc in
       inl (record {
         index = 0;
         there = omega arith;
         first = record { most = omega arith; earlier = λ i g. absurd (omega arith); beyond = λ g. h };
-        told = r ∙ ap (refusal COEFFICIENT_BEYOND) z;
+        told = r ∙ ap (refusal Rule.CoefficientBeyond) z;
       })
 
-  constant_alone : (place : ℕ) (ρ : Refusal) (t : Bool) → constant_fits k ≡ t → unless_passed t (refusal CONSTANT_BEYOND place) none ≡ some ρ → NamesConstant place apart [] k ρ
+  constant_alone : (place : ℕ) (ρ : Refusal) (t : Bool) → constant_fits k ≡ t → unless_passed t (refusal Rule.ConstantBeyond place) none ≡ some ρ → NamesConstant place apart [] k ρ
   constant_alone place ρ true h e = let z : ◌≡◌ {A = ℕ} 0 1 = cc in absurd (omega arith)
   constant_alone place ρ false h e =
       let z : place ≡ place + apart * 0 = omega arith in
-      let r : ρ ≡ refusal CONSTANT_BEYOND place = cc in
+      let r : ρ ≡ refusal Rule.ConstantBeyond place = cc in
       record {
         first = record { most = omega arith; earlier = λ i g. absurd (omega arith); beyond = λ g. absurd (omega arith) };
         beyond = h;
-        told = r ∙ ap (refusal CONSTANT_BEYOND) z;
+        told = r ∙ ap (refusal Rule.ConstantBeyond) z;
       }
 
   fields_named : (place : ℕ) (cs : List ℤ) (ρ : Refusal) → first_refusal (field_checks place apart cs k) ≡ some ρ → NamesNumber place apart cs k ρ
@@ -155,7 +156,7 @@ module _ (apart : ℕ) (k : ℤ) where
   pub fields_refused_iff : (place : ℕ) (cs : List ℤ) (ρ : Refusal) → (first_refusal (field_checks place apart cs k) ≡ some ρ) ↔ NamesNumber place apart cs k ρ
   fields_refused_iff place cs ρ = (fields_named place cs ρ, named_fields place cs ρ)
 
-pub fields_numbered : (P : ℕ → Type 0) (place apart : ℕ) (cs : List ℤ) (k : ℤ) → P COEFFICIENT_BEYOND → P CONSTANT_BEYOND → EveryNumber P (field_checks place apart cs k)
+pub fields_numbered : (P : Rule → Type 0) (place apart : ℕ) (cs : List ℤ) (k : ℤ) → P Rule.CoefficientBeyond → P Rule.ConstantBeyond → EveryRule P (field_checks place apart cs k)
 unfolding field_checks
 fields_numbered P place apart [] k x y = (y, tt)
 fields_numbered P place apart (a ∷ cs) k x y = (x, fields_numbered P (place + apart) apart cs k x y)
@@ -164,18 +165,17 @@ fields_numbered P place apart (a ∷ cs) k x y = (x, fields_numbered P (place + 
 
 module _ (place : ℕ) (k : ℤ) where
   row_cons : (a : ℤ) (cs : List ℤ) (t : Bool) → coefficient_fits a ≡ t
-      → (all coefficient_fits cs ≡ false → first_refusal (field_checks place 0 cs k) ≡ some (refusal COEFFICIENT_BEYOND place))
-      → t && all coefficient_fits cs ≡ false → first_refusal (field_checks place 0 (a ∷ cs) k) ≡ some (refusal COEFFICIENT_BEYOND place)
+      → (list_all coefficient_fits cs ≡ false → first_refusal (field_checks place 0 cs k) ≡ some (refusal Rule.CoefficientBeyond place))
+      → t && list_all coefficient_fits cs ≡ false → first_refusal (field_checks place 0 (a ∷ cs) k) ≡ some (refusal Rule.CoefficientBeyond place)
   unfolding first_refusal field_checks
   row_cons a cs true h rest e = let z : place + 0 ≡ place = omega arith in rw (h, z) (rest e)
   row_cons a cs false h rest e = rw h
 
-  pub row_beyond : (cs : List ℤ) → all coefficient_fits cs ≡ false → first_refusal (field_checks place 0 cs k) ≡ some (refusal COEFFICIENT_BEYOND place)
-  unfolding all
+  pub row_beyond : (cs : List ℤ) → list_all coefficient_fits cs ≡ false → first_refusal (field_checks place 0 cs k) ≡ some (refusal Rule.CoefficientBeyond place)
   row_beyond [] e = let z : ◌≡◌ {A = ℕ} 0 1 = cc in absurd (omega arith)
   row_beyond (a ∷ cs) e = row_cons a cs (coefficient_fits a) refl (row_beyond cs) e
 
-  pub row_within : (cs : List ℤ) → all coefficient_fits cs ≡ true → first_refusal (field_checks place 0 cs k) ≡ first_refusal (check CONSTANT_BEYOND place (constant_fits k) ∷ [])
+  pub row_within : (cs : List ℤ) → list_all coefficient_fits cs ≡ true → first_refusal (field_checks place 0 cs k) ≡ first_refusal (check Rule.ConstantBeyond place (constant_fits k) ∷ [])
   row_within cs e =
       let z : place + 0 * length cs ≡ place = omega arith in
       rw z at

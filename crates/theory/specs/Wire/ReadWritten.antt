@@ -1,5 +1,5 @@
 -- A question that was written is read back: the bytes are accepted, and the question read is the one that was written.
-use Rattle.std.specs.Prelude.{◌≡◌, refl, Bool, true, false, cond, T, get_or, drop, ℤ, nat_abs}
+use Rattle.std.specs.Prelude.{◌≡◌, refl, Bool, true, false, cond, T, get_or, drop, ℤ, nat_abs, Ok, Result}
 use Rattle.std.proofs.Math.Path.{sym, ap}
 use Rattle.std.proofs.Common.{◌∙◌, subst, ⊎_elim, arith, leb→le, lit<, length-take, length-drop, SFits}
 use mathlib.Core.List.{List, [], ◌∷◌, ◌++◌, map, append_assoc}
@@ -7,10 +7,10 @@ use Prim.Native.Nat.{ℕ, ◌+◌, ◌*◌, ◌≤◌, ◌<◌}
 use Rattle.std.proofs.Math.ListN.{length, length-append}
 use Rattle.std.proofs.Math.Seq.{drop_at}
 use Rattle.std.specs.Int.{w32}
+use Rattle.scope.specs.declared.Refusal.{Refusal}
 use Rattle.scope.specs.declared.Question.{Question}
-use Rattle.scope.specs.declared.ReadAnswer.{ReadAnswer}
-use Rattle.scope.specs.declared.Held.{Held}
-use Rattle.scope.specs.Whole.{all, joined}
+use Rattle.scope.specs.Whole.{joined}
+use Rattle.std.specs.List.{list_all}
 use Rattle.scope.specs.Sizes.{coefficient_fits, constant_fits, numbers_fit, most_atoms, most_nodes, most_variables}
 use Rattle.scope.specs.Question.{Node, code_of, is_atom, coefficients_of, constant_of}
 use Rattle.scope.specs.Refusals.{going, ended, onward}
@@ -31,19 +31,18 @@ use Rattle.theory.specs.Wire.Wholes.{whole_accepted, WrittenWhole, written_whole
 
 -- ---- numbers within their limits fit in four bytes
 
-run_fits : (cs : List ℤ) → T (all coefficient_fits cs) → Fit cs
-unfolding all
+run_fits : (cs : List ℤ) → T (list_all coefficient_fits cs) → Fit cs
 run_fits [] t = tt
 run_fits (a ∷ cs) t = (
-  fits_abs w32 a (omega (arith, leb→le (nat_abs a) 4096 (and_first (coefficient_fits a) (all coefficient_fits cs) t))),
-  run_fits cs (and_second (coefficient_fits a) (all coefficient_fits cs) t),
+  fits_abs w32 a (omega (arith, leb→le (nat_abs a) 4096 (and_first (coefficient_fits a) (list_all coefficient_fits cs) t))),
+  run_fits cs (and_second (coefficient_fits a) (list_all coefficient_fits cs) t),
 )
 
 pub written_numbers_fit : (cs : List ℤ) (k : ℤ) → T (numbers_fit cs k) → Fit cs × SFits w32 k
 unfolding numbers_fit
 written_numbers_fit cs k t = (
-  run_fits cs (and_first (all coefficient_fits cs) (constant_fits k) t),
-  fits_abs w32 k (omega (arith, leb→le (nat_abs k) 1000000 (and_second (all coefficient_fits cs) (constant_fits k) t))),
+  run_fits cs (and_first (list_all coefficient_fits cs) (constant_fits k) t),
+  fits_abs w32 k (omega (arith, leb→le (nat_abs k) 1000000 (and_second (list_all coefficient_fits cs) (constant_fits k) t))),
 )
 
 -- ---- a row of a held question has n numbers
@@ -282,7 +281,7 @@ module _ (q : Question) (z : Sized q) (w : Walk) (h : WrittenWhole q w) where
       sound = sound_head w.bytes 0 head_seen;
     }
 
-    read_back : read_held w.bytes ≡ record { answer = ReadAnswer.Accepted; question = q }
+    read_back : read_held w.bytes ≡ Ok q
     read_back =
         let g : (e : Ended) × (onward (most_nodes + 1) (record_read w.bytes) (going (after_head w.bytes 0)) ≡ ended e) × Final e =
         lockstep (part_written q) h.last (Front w.bytes) front_back front_last (record_read w.bytes) (Beside q) Final
@@ -291,10 +290,10 @@ module _ (q : Question) (z : Sized q) (w : Walk) (h : WrittenWhole q w) where
         whole_accepted w.bytes g.0 (record { head = head_seen; walk = g.1 }) g.2.all_read
         ∙ ap (λ (p : Question). accepted p) g.2.same
       where
-        accepted : Question → Held
-        accepted p = record { answer = ReadAnswer.Accepted; question = p }
+        accepted : Question → Result Question Refusal
+        accepted p = Ok p
 
-pub read_written : (q : Question) (w : Walk) → Sized q → written q ≡ ended w → read_held w.bytes ≡ record { answer = ReadAnswer.Accepted; question = q }
+pub read_written : (q : Question) (w : Walk) → Sized q → written q ≡ ended w → read_held w.bytes ≡ Ok q
 read_written q w z e =
     let h : WrittenWhole q w = written_whole q w e in
     read_back q z w h (known_onward (part_written q) h.last (Front w.bytes) (front_back q z w h) (front_last q z w h) (most_nodes + 1) (first_walk q) h.walk)

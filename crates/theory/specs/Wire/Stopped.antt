@@ -1,10 +1,11 @@
 -- Where reading stops: at a place that was reached by passing every record before it, with the first check there that fails; and nowhere else.
-use Rattle.std.specs.Prelude.{◌≡◌, refl, ◌↔◌, ◌⊎◌, Bool, true, false, not, List, [], ◌∷◌, ℕ, suc, ◌+◌, ◌-◌, ◌<◌, T, leb, length}
+use Rattle.std.specs.Prelude.{◌≡◌, refl, ◌↔◌, ◌⊎◌, Bool, true, false, not, List, [], ◌∷◌, ℕ, suc, ◌+◌, ◌-◌, ◌<◌, T, leb, length, Err, Result, Ok}
 use Rattle.std.proofs.Common.{sym, ap, ◌∙◌, inl, inr, arith}
 use Rattle.std.proofs.Math.Dec.{nleb→lt}
+use Rattle.scope.specs.declared.Question.{Question}
+use Rattle.scope.specs.declared.Rule.{Rule}
 use Rattle.scope.specs.declared.Refusal.{Refusal}
-use Rattle.scope.specs.declared.ReadAnswer.{ReadAnswer}
-use Rattle.scope.specs.Refusals.{LEFT_OVER, check, refusal, first_refusal, Progress, stopped, going, ended, or_stopped, onward}
+use Rattle.scope.specs.Refusals.{check, refusal, first_refusal, Progress, stopped, going, ended, or_stopped, onward}
 use Rattle.scope.specs.Wire.{grown, Reading, Ended, head_read, node_read, end_read, due_read, record_read, read_from, whole_read, held_of, read_held, head_checks, after_head, node_checks, after_node, end_checks, after_end}
 use Rattle.scope.specs.Sizes.{most_nodes}
 use Rattle.theory.specs.Wire.Checks.{FirstFailing, failing_stops, stopped_failing, going_not_stopped, ended_not_stopped, onward_stopped, onward_going}
@@ -122,25 +123,25 @@ pub record LeftBytes (b : List ℕ) (r : Refusal) : Type 0 where
   pub last : Ended
   pub read : read_from b 0 ≡ ended last
   pub left : last.next < length b
-  pub told : r ≡ refusal LEFT_OVER last.next
+  pub told : r ≡ refusal Rule.LeftOver last.next
 
-refused_one : (r t : Refusal) → ReadAnswer.Refused r ≡ ReadAnswer.Refused t → r ≡ t
+refused_one : (r t : Refusal) → ◌≡◌ {A = Result Question Refusal} (Err r) (Err t) → r ≡ t
 refused_one r t e = cc
 
-accepted_not_refused : (r : Refusal) → ReadAnswer.Accepted ≡ ReadAnswer.Refused r → ⊥
-accepted_not_refused r e = let z : ◌≡◌ {A = ℕ} 0 1 = cc in omega arith
+accepted_not_refused : (q : Question) (r : Refusal) → Ok q ≡ Err r → ⊥
+accepted_not_refused q r e = let z : ◌≡◌ {A = ℕ} 0 1 = cc in omega arith
 
-whole_stopped : (b : List ℕ) (r : Refusal) (p : Progress Reading Ended) → read_from b 0 ≡ p → (held_of (whole_read b p)).answer ≡ ReadAnswer.Refused r → StoppedAt b 0 r ⊎ LeftBytes b r
+whole_stopped : (b : List ℕ) (r : Refusal) (p : Progress Reading Ended) → read_from b 0 ≡ p → held_of (whole_read b p) ≡ Err r → StoppedAt b 0 r ⊎ LeftBytes b r
 unfolding whole_read first_refusal
 whole_stopped b r (stopped t) x e = inl (stopped_at b 0 r (x ∙ ap stopped (refused_one t r e)))
 whole_stopped b r (going s) x e = absurd (never_going b 0 s x)
 whole_stopped b r (ended d) x e = go (leb (length b) d.next) (nleb→lt (length b) d.next) e
   where
     go : (t : Bool) → (T (not t) → d.next < length b)
-        → (held_of (or_stopped (first_refusal (check LEFT_OVER d.next t ∷ [])) (ended d))).answer ≡ ReadAnswer.Refused r → StoppedAt b 0 r ⊎ LeftBytes b r
-    go true f e = absurd (accepted_not_refused r e)
-    go false f e = inr (record { last = d; read = x; left = f tt; told = sym (refused_one (refusal LEFT_OVER d.next) r e) })
+        → held_of (or_stopped (first_refusal (check Rule.LeftOver d.next t ∷ [])) (ended d)) ≡ Err r → StoppedAt b 0 r ⊎ LeftBytes b r
+    go true f e = absurd (accepted_not_refused d.question r e)
+    go false f e = inr (record { last = d; read = x; left = f tt; told = sym (refused_one (refusal Rule.LeftOver d.next) r e) })
 
-pub refused_at_lem : (b : List ℕ) (r : Refusal) → (read_held b).answer ≡ ReadAnswer.Refused r → StoppedAt b 0 r ⊎ LeftBytes b r
+pub refused_at_lem : (b : List ℕ) (r : Refusal) → read_held b ≡ Err r → StoppedAt b 0 r ⊎ LeftBytes b r
 unfolding read_held
 refused_at_lem b r e = whole_stopped b r (read_from b 0) refl e

@@ -1,12 +1,12 @@
 -- Reading and writing whole: a question accepted or written, as its head, its walk and its end.
-use Rattle.std.specs.Prelude.{◌≡◌, refl, List, [], ◌++◌, ℕ, ◌≤◌, ◌+◌, T, length}
+use Rattle.std.specs.Prelude.{◌≡◌, refl, List, [], ◌++◌, ℕ, ◌≤◌, ◌+◌, T, length, Ok, IsOk}
 use Rattle.std.proofs.Common.{sym, ap, ◌∙◌, subst, arith, leb→le, le→leb}
+use Rattle.scope.specs.declared.Rule.{Rule}
 use Rattle.scope.specs.declared.Question.{Question}
 use Rattle.scope.specs.declared.Refusal.{Refusal}
-use Rattle.scope.specs.declared.ReadAnswer.{ReadAnswer}
 use Rattle.scope.specs.Sizes.{variables_fit, most_nodes}
-use Rattle.scope.specs.Refusals.{TOO_MANY, refusal, Progress, stopped, going, ended, onward}
-use Rattle.scope.specs.Wire.{Reading, Ended, head_read, record_read, read_from, whole_read, held_of, read_held, end_kind, after_head, head_checks, whole_checks}
+use Rattle.scope.specs.Refusals.{refusal, Progress, stopped, going, ended, onward}
+use Rattle.scope.specs.Wire.{Reading, Ended, head_read, record_read, read_from, whole_read, held_of, read_held, end_kind, after_head, head_checks, whole_checks, question_held}
 use Rattle.scope.specs.Writing.{record_bytes, Walk, head_written, part_written, left_over_checks, end_written, written, first_walk}
 use Rattle.theory.specs.Wire.Checks.{Passed, still_ended, passed_on, ended_one, going_not_ended, stopped_not_ended, onward_stopped}
 use Rattle.theory.specs.Wire.ReadingSteps.{HeadThere, head_going, going_head}
@@ -41,9 +41,9 @@ pub record AcceptedWhole (b : List ℕ) : Type 0 where
   pub last : Ended
   pub whole : ReadWhole b 0 last
   pub all_read : length b ≤ last.next
-  pub question : (read_held b).question ≡ last.question
+  pub question : (question_held (read_held b)) ≡ last.question
 
-refused_not_accepted : (r : Refusal) → ReadAnswer.Refused r ≡ ReadAnswer.Accepted → ⊥
+refused_not_accepted : (r : Refusal) → IsOk (held_of (stopped r)) → ⊥
 refused_not_accepted r e = let z : ◌≡◌ {A = ℕ} 0 1 = cc in omega arith
 
 past_end : (b : List ℕ) (e : Ended) (p : Progress Reading Ended) → whole_read b p ≡ ended e → (p ≡ ended e) × (length b ≤ e.next)
@@ -54,18 +54,18 @@ past_end b e (ended d) x =
     let g : Passed (whole_checks b d.next) × (◌≡◌ {A = Progress Reading Ended} (ended d) (ended e)) = still_ended (whole_checks b d.next) (ended d) e x in
     (g.1, subst (λ (f : Ended). length b ≤ f.next) (ended_one d e g.1) (leb→le (length b) d.next g.0.0))
 
-pub accepted_whole : (b : List ℕ) → (read_held b).answer ≡ ReadAnswer.Accepted → AcceptedWhole b
+pub accepted_whole : (b : List ℕ) → IsOk (read_held b) → AcceptedWhole b
 unfolding read_held
 accepted_whole b h = go (whole_read b (read_from b 0)) refl h
   where
-    go : (p : Progress Reading Ended) → whole_read b (read_from b 0) ≡ p → (held_of p).answer ≡ ReadAnswer.Accepted → AcceptedWhole b
+    go : (p : Progress Reading Ended) → whole_read b (read_from b 0) ≡ p → IsOk (held_of p) → AcceptedWhole b
     go (stopped r) x h = absurd (refused_not_accepted r h)
-    go (going s) x h = absurd (refused_not_accepted (refusal TOO_MANY s.place) h)
+    go (going s) x h = absurd (refused_not_accepted (refusal Rule.TooMany s.place) h)
     go (ended e) x h =
         let g : (read_from b 0 ≡ ended e) × (length b ≤ e.next) = past_end b e (read_from b 0) x in
-        record { last = e; whole = read_whole b 0 e g.0; all_read = g.1; question = ap (λ (p : Progress Reading Ended). (held_of p).question) x }
+        record { last = e; whole = read_whole b 0 e g.0; all_read = g.1; question = ap (λ (p : Progress Reading Ended). question_held (held_of p)) x }
 
-pub whole_accepted : (b : List ℕ) (e : Ended) → ReadWhole b 0 e → length b ≤ e.next → read_held b ≡ record { answer = ReadAnswer.Accepted; question = e.question }
+pub whole_accepted : (b : List ℕ) (e : Ended) → ReadWhole b 0 e → length b ≤ e.next → read_held b ≡ Ok e.question
 unfolding read_held whole_read
 whole_accepted b e h l = ap (λ (p : Progress Reading Ended). held_of (whole_read b p)) (whole_read_lem b 0 e h)
     ∙ ap held_of (passed_on (whole_checks b e.next) (ended e) (le→leb (length b) e.next l, tt))
@@ -96,7 +96,7 @@ written_whole q w h = go (onward (most_nodes + 1) (part_written q) (head_written
 
     go : (p : Progress Walk Walk) → onward (most_nodes + 1) (part_written q) (head_written q) ≡ p → end_written q p ≡ ended w → WrittenWhole q w
     go (stopped r) x h = absurd (stopped_not_ended r w h)
-    go (going v) x h = absurd (stopped_not_ended (refusal TOO_MANY most_nodes) w h)
+    go (going v) x h = absurd (stopped_not_ended (refusal Rule.TooMany most_nodes) w h)
     go (ended v) x h =
         let g : Passed (left_over_checks q v.shape) × (◌≡◌ {A = Progress Walk Walk} (ended (after_last v)) (ended w)) = still_ended (left_over_checks q v.shape) (ended (after_last v)) w h in
         let f : T (variables_fit q.n) × (onward (most_nodes + 1) (part_written q) (going (first_walk q)) ≡ ended v) = head v (head_written q) refl x in

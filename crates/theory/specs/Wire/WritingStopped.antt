@@ -1,10 +1,11 @@
 -- Where writing is refused: at a node that was reached by passing every node before it, or at what is left over, with the first check that fails there.
 use Rattle.std.specs.Prelude.{◌≡◌, refl, ◌↔◌, List, [], ◌∷◌, ℕ, suc, ◌+◌, ◌-◌, T}
 use Rattle.std.proofs.Common.{sym, ap, ◌∙◌, subst, arith}
+use Rattle.scope.specs.declared.Rule.{Rule}
 use Rattle.scope.specs.declared.Question.{Question}
 use Rattle.scope.specs.declared.Refusal.{Refusal}
 use Rattle.scope.specs.Sizes.{variables_fit, most_nodes}
-use Rattle.scope.specs.Refusals.{TOO_MANY, refusal, Progress, stopped, going, ended, onward}
+use Rattle.scope.specs.Refusals.{refusal, Progress, stopped, going, ended, onward}
 use Rattle.scope.specs.Wire.{grown}
 use Rattle.scope.specs.Writing.{Walk, head_written, node_written, due_written, part_written, left_over_checks, end_written, written, first_walk, node_held, node_held_checks, after_written, head_held_checks}
 use Rattle.theory.specs.Wire.Checks.{FirstFailing, failing_stops, stopped_failing, stopped_one, still_going, going_not_ended, going_not_stopped, stopped_not_ended, ended_not_stopped, onward_stopped, onward_ended, onward_going}
@@ -150,5 +151,5 @@ never_half_written q w e = go (nodes_written q) e
   where
     go : (p : Progress Walk Walk) → end_written q p ≡ going w → ⊥
     go (stopped t) e = going_not_stopped w t (sym e)
-    go (going v) e = going_not_stopped w (refusal TOO_MANY most_nodes) (sym e)
+    go (going v) e = going_not_stopped w (refusal Rule.TooMany most_nodes) (sym e)
     go (ended v) e = going_not_ended w (after_last v) (sym (still_going (left_over_checks q v.shape) (ended (after_last v)) w e).1)

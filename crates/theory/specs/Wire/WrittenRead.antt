@@ -1,15 +1,14 @@
 -- Bytes that are accepted are written back: the question that was read is sized, sound and written, and its bytes are those that were read.
-use Rattle.std.specs.Prelude.{◌≡◌, refl, Bool, true, false, cond, ℕ, ◌+◌, ◌*◌, ◌≤◌, ◌<◌, T, length, get_or, drop, ℤ}
+use Rattle.std.specs.Prelude.{◌≡◌, refl, Bool, true, false, cond, ℕ, ◌+◌, ◌*◌, ◌≤◌, ◌<◌, T, length, get_or, drop, ℤ, IsOk}
 use Rattle.std.proofs.Math.Path.{sym, ap}
 use Rattle.std.proofs.Common.{◌∙◌, subst, arith, le→leb, length-drop, take-add, take_all, get_or-drop}
 use mathlib.Core.List.{List, [], ◌∷◌, ◌++◌}
 use Rattle.std.proofs.Math.ListN.{take}
 use Rattle.scope.specs.declared.Question.{Question}
-use Rattle.scope.specs.declared.ReadAnswer.{ReadAnswer}
 use Rattle.scope.specs.Sizes.{variables_fit, most_nodes}
 use Rattle.scope.specs.Question.{Node, node_of, is_atom, coefficients_of, constant_of}
 use Rattle.scope.specs.Refusals.{going, ended, onward}
-use Rattle.scope.specs.Wire.{byte_at, length_at, kind_at, number_at, numbers_at, body_there, head_kind, end_kind, kind_of, body_length, Shape, grown, Reading, Ended, record_read, read_held, node_at, coefficients_at, constant_at, after_head}
+use Rattle.scope.specs.Wire.{byte_at, length_at, kind_at, number_at, numbers_at, body_there, head_kind, end_kind, kind_of, body_length, Shape, grown, Reading, Ended, record_read, read_held, node_at, coefficients_at, constant_at, after_head, question_held}
 use Rattle.scope.specs.Writing.{record_bytes, atom_body, node_bytes, Walk, part_written, written, first_walk, node_held, after_written}
 use Rattle.theory.specs.Wire.Lockstep.{known_onward, lockstep}
 use Rattle.theory.specs.Wire.Octets.{Octets}
@@ -228,7 +227,7 @@ pub record WrittenBack (b : List ℕ) (q : Question) : Type 0 where
   pub sized : Sized q
   pub sound : Sound q walk.shape
 
-pub written_read : (b : List ℕ) → Octets b → (read_held b).answer ≡ ReadAnswer.Accepted → WrittenBack b (read_held b).question
+pub written_read : (b : List ℕ) → Octets b → IsOk (read_held b) → WrittenBack b (question_held (read_held b))
 written_read b o e =
     let a : AcceptedWhole b = accepted_whole b e in
     let w : (w : Walk) × (written a.last.question ≡ ended w) × (w.bytes ≡ b) × Sound a.last.question w.shape = write_back b o a.last a.whole a.all_read in

@@ -6,7 +6,7 @@ use mathlib.Core.List.{List, [], ◌∷◌, ◌++◌, map}
 use Rattle.std.proofs.Math.Nat.{pow-succ', pow-le-pow_right, div-div-eq-div-mul, zero-div}
 use Rattle.std.proofs.lemmas.List.{length-map}
 use Rattle.std.proofs.Math.Facts.{and_yes, yes_and}
-use Rattle.scope.specs.Whole.{all}
+use Rattle.std.specs.List.{list_all}
 use Rattle.scope.specs.Words.{letters, digit, letter_of, Word, value_from, value, values_from, spelled, Over, over-[], over-∷, letters_fit}
 
 -- ---- letters
@@ -220,22 +220,20 @@ every_tuple n xs e = record {
 -- ---- tests of each letter, or of each value
 
 module _ (passes : ℕ → Bool) (k : ℕ) (means : (a : ℕ) → T (passes a) ↔ (a < k)) where
-  into_over : (w : Word) → T (all passes w) → Over k w
-  unfolding all
+  into_over : (w : Word) → T (list_all passes w) → Over k w
   into_over [] t = over-[]
-  into_over (a ∷ w) t = let p = and_yes (passes a) (all passes w) t in over-∷ ((means a).0 p.0) (into_over w p.1)
+  into_over (a ∷ w) t = let p = and_yes (passes a) (list_all passes w) t in over-∷ ((means a).0 p.0) (into_over w p.1)
 
-  out_of_over : {w : Word} → Over k w → T (all passes w)
-  unfolding all
+  out_of_over : {w : Word} → Over k w → T (list_all passes w)
   out_of_over over-[] = tt
-  out_of_over (over-∷ {a} {w} h o) = yes_and (passes a) (all passes w) ((means a).1 h) (out_of_over o)
+  out_of_over (over-∷ {a} {w} h o) = yes_and (passes a) (list_all passes w) ((means a).1 h) (out_of_over o)
 
-  all_over : (w : Word) → T (all passes w) ↔ Over k w
+  all_over : (w : Word) → T (list_all passes w) ↔ Over k w
   all_over w = (into_over w, λ o. out_of_over o)
 
 pub letters_fit_lem : (n : ℕ) (w : Word) → T (letters_fit n w) ↔ Over (letters n) w
 letters_fit_lem n w = all_over (λ (a : ℕ). ltb a (letters n)) (letters n) (λ a. (ltb→lt a (letters n), lt→ltb a (letters n))) w
 
 -- the values are at most k
-pub values_at_most : (k : ℕ) (xs : List ℕ) → T (all (λ (x : ℕ). leb x k) xs) ↔ Over (suc k) xs
+pub values_at_most : (k : ℕ) (xs : List ℕ) → T (list_all (λ (x : ℕ). leb x k) xs) ↔ Over (suc k) xs
 values_at_most k xs = all_over (λ (x : ℕ). leb x k) (suc k) (λ x. (λ t. omega (arith, leb→le x k t), λ h. le→leb x k (omega arith))) xs

@@ -15,14 +15,13 @@ one_more word j v e =
     let n : j + 1 - 1 ≡ j = omega arith in
     sym (spelled_more j word ∙ ap (λ (k : ℕ). numbers (spelled j word) ++ spaced k) (sym (e ∙ ap (value word) n)))
 
-pub loop-variable-init : goal.loop-variable-init
+pub loop-j-init : goal.loop-j-init
 unfolding numbers spelled values_from
-loop-variable-init c = (search rules, search rules, refl, put_none _ _)
+loop-j-init c = (search rules, refl, put_none _ _)
 
-pub loop-variable-preserved : goal.loop-variable-preserved
-loop-variable-preserved c = (
+pub loop-j-preserved : goal.loop-j-preserved
+loop-j-preserved c = (
   omega arith,
-  omega arith,
-  c.put_number-next.auto.out ∙ c.loop-variable.invariant.2,
-  put_as (one_more c.args.word.now _ _ c.value_of.ensures) (put_both c.loop-variable.invariant.3 c.put_number-next.ensures.0),
+  c.put_number-next.auto.out ∙ c.loop-j.invariant.1,
+  put_as (one_more c.args.word.now _ _ c.value_of.ensures) (put_both c.loop-j.invariant.2 c.put_number-next.ensures.0),
 )

@@ -5,13 +5,15 @@ use mathlib.Core.Path.{◌≡◌, ◌∙◌}
 use mathlib.Core.List.{List, ◌++◌}
 use lib.ListN.{length, take, drop}
 use borrow.Author.Tests.{le-leb, lt-leb}
-use Rattle.scope.specs.declared.DecideAnswer.{DecideAnswer}
+use Rattle.std.specs.Prelude.{Result}
+use Rattle.scope.specs.declared.Refusal.{Refusal}
+use Rattle.scope.specs.declared.Decision.{Decision}
 use Rattle.scope.specs.Whole.{at_front}
 use Rattle.told.specs.Text.{text_of, TextTells, telling, told, longest}
 use Rattle.told.specs.Writers.{Put}
 use Rattle.told.proofs.tell.Goals as goal
 
-module _ (n : ℕ) (answer : DecideAnswer) (word out before after : List ℕ) (r : ℕ) (p : Put (text_of n answer word) 0 before r after) where
+module _ (n : ℕ) (answer : Result Decision Refusal) (word out before after : List ℕ) (r : ℕ) (p : Put (text_of n answer word) 0 before r after) where
   text_length : r ≡ length (text_of n answer word)
   text_length = omega (arith, p.ends)
 

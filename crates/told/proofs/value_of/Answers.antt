@@ -9,4 +9,4 @@ returns-in_default c =
 
 pub returns : goal.returns
 returns c =
-    value_is c.args.n c.args.variable c.args.word.now c.requires.0 c.requires.1 c.requires.2 _ (sym c.spell.ensures ∙ c.in-Value.is)
+    value_is c.args.n c.args.variable c.args.word.now c.requires.0 c.requires.1 c.requires.2 _ (sym c.spell.ensures ∙ c.in-Ok.is)

@@ -7,46 +7,46 @@ use lib.Dec.{eqb}
 use Rattle.scope.specs.Running.{table_rows, row_after, says_yes}
 use Rattle.words.proofs.Tables.{TableWalk, walk, accept_within, next_within, next_row, row_step, row_last}
 use Rattle.words.proofs.says_yes.Goals as goal
-use Rattle.words.proofs.says_yes.Goals.{At-loop-i, In-loop-i}
+use Rattle.words.proofs.says_yes.Goals.{At-loop-letter, In-loop-letter}
 
 -- what the loop leans on
 at_loop :
-    (c : goal.At-loop-i) →
+    (c : goal.At-loop-letter) →
     TableWalk c.args.n c.table_width-width.result (table_rows c.args.n c.args.cells.now) c.args.cells.now c.args.word.now
 at_loop c = walk c.requires c.table_width-width.ensures
 
 inside :
-    (c : goal.In-loop-i) →
-    c.loop-i.row * c.table_width-width.result + 1 + get_or c.args.word.now c.loop-i.i 0 < length c.args.cells.now
-inside c = next_within (walk c.requires c.table_width-width.ensures) c.loop-i.row c.loop-i.invariant.1 c.loop-i.i c.loop-i-test.true
+    (c : goal.In-loop-letter) →
+    c.loop-letter.row * c.table_width-width.result + 1 + get_or c.args.word.now c.loop-letter.letter-index 0 < length c.args.cells.now
+inside c = next_within (walk c.requires c.table_width-width.ensures) c.loop-letter.row c.loop-letter.invariant.0 c.loop-letter.letter-index c.loop-letter-test.true
 
-pub loop-i-init : goal.loop-i-init
-loop-i-init c = (omega arith, (walk c.requires c.table_width-width.ensures).first, refl)
+pub loop-letter-init : goal.loop-letter-init
+loop-letter-init c = ((walk c.requires c.table_width-width.ensures).first, refl)
 
-pub loop-i-preserved : goal.loop-i-preserved
-loop-i-preserved c =
-    let p = goal.at.loop-i-preserved c in
-    let t = c.loop-i-test.true in (
-      omega arith,
-      next_row (at_loop p.At-loop-i) c.loop-i.row c.loop-i.invariant.1 c.loop-i.i t,
-      sym (row_step (at_loop p.At-loop-i) c.loop-i.row c.loop-i.invariant.1 c.loop-i.i t) ∙ c.loop-i.invariant.2,
+pub loop-letter-preserved : goal.loop-letter-preserved
+loop-letter-preserved c =
+    let p = goal.at.loop-letter-preserved c in
+    let t = c.loop-letter-test.true in
+    rw (c.from-row.ensures, c.from.ensures) (
+      next_row (at_loop p.At-loop-letter) c.loop-letter.row c.loop-letter.invariant.0 c.loop-letter.letter-index t,
+      sym (row_step (at_loop p.At-loop-letter) c.loop-letter.row c.loop-letter.invariant.0 c.loop-letter.letter-index t) ∙ c.loop-letter.invariant.1,
     )
 
 pub returns : goal.returns
 unfolding says_yes
 returns c =
-    let e : c.loop-i.row ≡ row_after c.args.n c.args.cells.now 0 c.args.word.now =
-    sym (row_last c.args.n c.args.cells.now c.args.word.now c.loop-i.row c.loop-i.i (omega arith)) ∙ c.loop-i.invariant.2 in
+    let e : c.loop-letter.row ≡ row_after c.args.n c.args.cells.now 0 c.args.word.now =
+    sym (row_last c.args.n c.args.cells.now c.args.word.now c.loop-letter.row c.loop-letter.letter-index (omega arith)) ∙ c.loop-letter.invariant.1 in
     λ k. eqb (get_or c.args.cells.now (e k * c.table_width-width.ensures k) 0) 1
 
-pub overflow_add-row-in-loop-i : goal.overflow_add-row-in-loop-i
-overflow_add-row-in-loop-i c = omega (arith, inside (goal.at.overflow_add-row-in-loop-i c).In-loop-i)
+pub overflow_add-row-in-loop-letter : goal.overflow_add-row-in-loop-letter
+overflow_add-row-in-loop-letter c = omega (arith, inside (goal.at.overflow_add-row-in-loop-letter c).In-loop-letter)
 
 pub offset_bounds-cells-row : goal.offset_bounds-cells-row
-offset_bounds-cells-row c = omega (arith, inside (goal.at.offset_bounds-cells-row c).In-loop-i)
+offset_bounds-cells-row c = omega (arith, inside (goal.at.offset_bounds-cells-row c).In-loop-letter)
 
 pub bounds-cells-row : goal.bounds-cells-row
-bounds-cells-row c = inside (goal.at.bounds-cells-row c).In-loop-i
+bounds-cells-row c = rw c.from.ensures (inside (goal.at.bounds-cells-row c).In-loop-letter)
 
 pub bounds-cells-row-2 : goal.bounds-cells-row-2
-bounds-cells-row-2 c = accept_within (at_loop (goal.at.bounds-cells-row-2 c).At-loop-i) c.loop-i.row c.loop-i.invariant.1
+bounds-cells-row-2 c = accept_within (at_loop (goal.at.bounds-cells-row-2 c).At-loop-letter) c.loop-letter.row c.loop-letter.invariant.0

@@ -3,7 +3,7 @@ use mathlib.Core.Path.{◌≡◌, sym, ap, ◌∙◌}
 use mathlib.Core.Bool.{true, ◌&&◌}
 use lib.Dec.{leb}
 use borrow.Author.Tests.{le-leb, lt-leb}
-use Rattle.scope.specs.declared.SpellAnswer.{SpellAnswer}
+use Rattle.std.specs.Prelude.{Ok, Err}
 use Rattle.scope.specs.Sizes.{variables_fit}
 use Rattle.scope.specs.Words.{letters_fit}
 use Rattle.words.proofs.Running.{letters_tested}
@@ -23,17 +23,17 @@ letters_pass c = sym (letters_tested _ _ c.letters_fit.ensures c.letters.ensures
 
 -- ---- the answers
 pub returns-then-not-within : goal.returns-then-not-within
-returns-then-not-within c = c.spell_refused.ensures ∙ sym (spelt_no_variables _ _ _ (sym c.within.ensures ∙ c.if-not-within.true))
+returns-then-not-within c = ap Err c.at.ensures ∙ sym (spelt_no_variables _ _ _ (sym c.within.ensures ∙ c.if-not-within.true))
 
 pub returns-then-not-within-2 : goal.returns-then-not-within-2
 returns-then-not-within-2 c =
-    c.spell_refused-then-not-within-2.ensures ∙
+    ap Err c.at-then-not-within-2.ensures ∙
     sym (spelt_no_variable _ _ _ (n_fits (goal.at.returns-then-not-within-2 c).Else-not-within) (sym c.within-2.ensures ∙ c.if-not-within-2.true))
 
 pub returns-then-not-letters_fit : goal.returns-then-not-letters_fit
 returns-then-not-letters_fit c =
     let p = goal.at.returns-then-not-letters_fit c in
-    c.spell_refused-then-not-letters_fit.ensures ∙
+    ap Err c.at-then-not-letters_fit.ensures ∙
     sym
     (spelt_no_letter _ _ _ (n_fits p.Else-not-within) (variable_fits p.Else-not-within-2)
     (sym (letters_tested _ _ c.letters_fit.ensures c.letters.ensures.0) ∙ c.if-not-letters_fit.true))
@@ -41,7 +41,7 @@ returns-then-not-letters_fit c =
 pub returns-then-word-gt-SPELLED : goal.returns-then-word-gt-SPELLED
 returns-then-word-gt-SPELLED c =
     let p = goal.at.returns-then-word-gt-SPELLED c in
-    c.spell_refused-then-word-gt-SPELLED.ensures ∙
+    ap Err c.at-then-word-gt-SPELLED.ensures ∙
     sym
     (spelt_long _ _ _ (n_fits p.Else-not-within) (variable_fits p.Else-not-within-2) (letters_pass p.Else-not-letters_fit)
     (lt-leb _ _ c.if-word-gt-SPELLED.true))
@@ -49,7 +49,7 @@ returns-then-word-gt-SPELLED c =
 pub returns : goal.returns
 returns c =
     let p = goal.at.returns c in
-    ap SpellAnswer.Value c.value_of.ensures ∙
+    ap Ok c.value_of.ensures ∙
     sym
     (spelt_value _ _ _ (n_fits p.Else-not-within) (variable_fits p.Else-not-within-2) (letters_pass p.Else-not-letters_fit)
     (le-leb _ _ c.if-word-gt-SPELLED.false))

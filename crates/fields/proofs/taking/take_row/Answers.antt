@@ -1,4 +1,5 @@
 -- `fields::taking::take_row` meets its contract: what is still to be taken leads to the whole.
+use native.Mathlib.Omega.{arith}
 use mathlib.Core.Path.{◌≡◌, sym, ap, ◌∙◌}
 use mathlib.Core.Bool.{Bool, true, false}
 use Prim.Native.Nat.{◌+◌, ◌*◌}
@@ -19,12 +20,12 @@ fits c v t r e = ap coefficient_fits (sym (number c)) ∙ sym r ∙ e
 
 pub returns-then-not-coefficient_fits : goal.returns-then-not-coefficient_fits
 returns-then-not-coefficient_fits c =
-    taken_not c.args.bytes.now c.args.start c.args.n c.args.cell c.args.coefficients.now c.loop-i.coefficients c.loop-i.i c.loop-i.invariant _ c.loop-i-test.true (fits (goal.at.returns-then-not-coefficient_fits c).After-number_at-number _ false c.coefficient_fits.ensures c.if-not-coefficient_fits.true)
+    taken_not c.args.bytes.now c.args.start c.args.n c.args.cell c.args.coefficients.now c.loop-i.coefficients c.loop-i.i c.loop-i.invariant c.loop-i.coefficients (omega arith) (fits (goal.at.returns-then-not-coefficient_fits c).After-number_at-number _ false c.coefficient_fits.ensures c.if-not-coefficient_fits.true)
 
 pub loop-i-preserved : goal.loop-i-preserved
 loop-i-preserved c =
-    taken_again c.args.bytes.now c.args.start c.args.n c.args.cell c.args.coefficients.now c.loop-i.coefficients c.loop-i.i c.loop-i.invariant _ (number (goal.at.loop-i-preserved c).After-number_at-number) c.loop-i-test.true (fits (goal.at.loop-i-preserved c).After-number_at-number _ true c.coefficient_fits.ensures c.if-not-coefficient_fits.false)
+    taken_again c.args.bytes.now c.args.start c.args.n c.args.cell c.args.coefficients.now c.loop-i.coefficients c.loop-i.i c.loop-i.invariant _ (number (goal.at.loop-i-preserved c).After-number_at-number) (omega arith) (fits (goal.at.loop-i-preserved c).After-number_at-number _ true c.coefficient_fits.ensures c.if-not-coefficient_fits.false)
 
 pub returns : goal.returns
 returns c =
-    taken_whole c.args.bytes.now c.args.start c.args.n c.args.cell c.args.coefficients.now c.loop-i.coefficients c.loop-i.i c.loop-i.invariant c.loop-i-test.false
+    taken_whole c.args.bytes.now c.args.start c.args.n c.args.cell c.args.coefficients.now c.loop-i.coefficients c.loop-i.i c.loop-i.invariant (omega arith)

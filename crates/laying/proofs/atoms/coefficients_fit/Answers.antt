@@ -16,15 +16,15 @@ fits c = rw (to_z-of_z w64 _ (record { sfits = c.coefficient_fits-arg-1.given })
 pub returns-then-not-coefficient_fits : goal.returns-then-not-coefficient_fits
 returns-then-not-coefficient_fits c =
     let numbers = c.args.numbers in
-    sym (sym c.loop-i.invariant.1 ∙ all_fails coefficient_fits numbers (pos 0) c.loop-i.i (omega arith) (failed (fits (goal.at.returns-then-not-coefficient_fits c).After-coefficient_fits) c.if-not-coefficient_fits.true-raw))
+    sym (sym c.loop-i.invariant ∙ all_fails coefficient_fits numbers (pos 0) c.loop-i.i (omega arith) (failed (fits (goal.at.returns-then-not-coefficient_fits c).After-coefficient_fits) c.if-not-coefficient_fits.true-raw))
 
 pub loop-i-preserved : goal.loop-i-preserved
 loop-i-preserved c =
     let numbers = c.args.numbers in
-    (omega arith, sym (all_more coefficient_fits numbers (pos 0) c.loop-i.i (omega arith) (passed (fits (goal.at.loop-i-preserved c).After-coefficient_fits) c.if-not-coefficient_fits.false-raw)) ∙ c.loop-i.invariant.1)
+    sym (all_more coefficient_fits numbers (pos 0) c.loop-i.i (omega arith) (passed (fits (goal.at.loop-i-preserved c).After-coefficient_fits) c.if-not-coefficient_fits.false-raw)) ∙ c.loop-i.invariant
 
 pub returns : goal.returns
-returns c = sym (all_done coefficient_fits c.args.numbers (pos 0) c.loop-i.i (omega arith)) ∙ c.loop-i.invariant.1
+returns c = sym (all_done coefficient_fits c.args.numbers (pos 0) c.loop-i.i (omega arith)) ∙ c.loop-i.invariant
 
 pub loop-i-init : goal.loop-i-init
-loop-i-init c = (omega arith, refl)
+loop-i-init c = refl

@@ -1,10 +1,12 @@
 -- `laying::atoms::kind_code` meets its contract: only an equation's kind is not at most.
-use borrow.Author.Tests.{eq-eqb}
+use mathlib.Core.Path.{refl}
+use Rattle.terms.specs.declared.heads.HeadWord.{HeadWord}
+use Rattle.terms.specs.Heads.{word_code, same_word}
 use Rattle.laying.proofs.AtomNumbers.{no_equation}
 use Rattle.laying.proofs.atoms.kind_code.Goals as goal
 
-pub returns-then-head-eq3 : goal.returns-then-head-eq3
-returns-then-head-eq3 c = rw (eq-eqb _ 3 c.if-head-eq3.true)
+pub returns-in-Equal : goal.returns-in-Equal
+returns-in-Equal c = rw c.in-Equal.is refl
 
-pub returns-else-head-eq3 : goal.returns-else-head-eq3
-returns-else-head-eq3 c = no_equation c.args.head c.if-head-eq3.false
+pub returns-in_default : goal.returns-in_default
+returns-in_default c = no_equation (word_code c.args.head) (λ e. c.in_default.not-Equal (same_word c.args.head HeadWord.Equal e))

@@ -1,23 +1,22 @@
--- `lent::telling::put_names` meets its contract: what is still to be copied leads to the whole.
-use native.Mathlib.Omega.{arith}
-use mathlib.Core.Path.{refl}
-use Rattle.lent.proofs.Copies.{copy_start, copy_again, copy_ended, copy_full}
+-- `lent::telling::put_names` meets its contract. The invariant: the first names are put.
+use Rattle.std.proofs.Common.{◌∙◌, sym, arith, add-one, ◌≡◌, ◌<◌, take, length}
+use lib.Seq.{length-take-le, get_or-take}
+use Rattle.lent.proofs.Copies.{sets_first, sets_more}
 use Rattle.lent.proofs.telling.put_names.Goals as goal
+use Rattle.lent.proofs.telling.put_names.Goals.{After-min-count}
 
-pub loop-i-init : goal.loop-i-init
-loop-i-init c = (copy_start c.args.told.now c.args.names.now 2, refl)
+counted : (c : goal.After-min-count) → length (take c.min-count.result c.args.names.now) ≡ c.min-count.result
+counted c = length-take-le c.min-count.result c.args.names.now (omega (arith, c.min-count.ensures))
 
 pub loop-i-preserved : goal.loop-i-preserved
-loop-i-preserved c = (copy_again c.loop-i.invariant.0 _ _ refl (omega arith), omega (arith, c.loop-i.invariant.1))
+loop-i-preserved c =
+    let names = c.args.names.now in
+    let long = counted (goal.at.loop-i-preserved c).After-min-count in
+    let in_count : c.loop-i.i < c.min-count.result = omega (arith, c.loop-i-test.true, long) in
+    rw (add-one c.loop-i.i, get_or-take c.min-count.result names c.loop-i.i 0 in_count, c.loop-i.invariant)
+    (sym (sets_more c.args.told.now names 2 c.loop-i.i 0 (omega (arith, in_count, c.min-count.ensures))))
 
-pub returns-else-to-told : goal.returns-else-to-told
-returns-else-to-told c = copy_full c.loop-i.invariant.0 (omega arith)
-
-pub returns-after-loop-i : goal.returns-after-loop-i
-returns-after-loop-i c = copy_ended c.loop-i.invariant.0 (omega arith)
-
-pub shape_of-told-else-to-told : goal.shape_of-told-else-to-told
-shape_of-told-else-to-told c = c.loop-i.invariant.0.same
-
-pub shape_of-told-after-loop-i : goal.shape_of-told-after-loop-i
-shape_of-told-after-loop-i c = c.loop-i.invariant.0.same
+pub returns : goal.returns
+returns c =
+    let long = counted (goal.at.returns c).After-min-count in
+    c.loop-i.invariant ∙ sets_first c.args.told.now c.args.names.now 2 c.loop-i.i (omega (arith, long, c.min-count.ensures, c.saturating_sub.ensures))

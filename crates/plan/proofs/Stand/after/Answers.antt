@@ -12,7 +12,6 @@ pub returns-then-left-eq0 : goal.returns-then-left-eq0
 returns-then-left-eq0 c =
     rw c.going.ensures (record {
       count_is = refl;
-      goes_on = refl;
       place = next_row (none_left c.args.plan.fresh c.args.self.letter c.args.plan.letters c.requires.0 c.if-left-eq0.true);
     })
 
@@ -29,7 +28,6 @@ pub returns : goal.returns
 returns c =
     rw c.going-2.ensures (record {
       count_is = refl;
-      goes_on = refl;
       place = next_letter (next_below c.args.plan.fresh c.args.self.letter c.args.plan.letters c.requires.1 c.requires.2 c.if-left-eq0.false)
           (next_skips c.args.plan.fresh c.args.self.letter c.args.plan.letters c.requires.1 c.requires.2 c.if-left-eq0.false);
     })

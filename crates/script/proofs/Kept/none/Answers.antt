@@ -9,8 +9,7 @@ pub returns : goal.returns
 unfolding declarations_from lowest_of
 returns c text = record {
   whole = record { bounds_length = refl; places_length = refl; tokens_length = refl; signed_length = refl };
-  stage_is = refl;
-  check_is = refl;
+  phase_is = refl;
   declarations_are = refl;
   names_stand = record { room = omega arith; at_most_seven = omega arith; spans = λ i h. absurd (let z : ⊥ = omega arith in z) };
   spelt_from = λ i h. absurd (let z : ⊥ = omega arith in z);

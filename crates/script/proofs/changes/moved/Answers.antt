@@ -5,4 +5,4 @@ use Rattle.script.proofs.changes.moved.Goals as goal
 
 pub returns : goal.returns
 unfolding MovesOn
-returns c = λ text s stage places keeps e f g. moved_kept keeps stage places _ _ _ _ c.lower-outside.ensures e f g
+returns c = λ text s stage places keeps e g. moved_kept keeps stage places _ _ _ c.lower-outside.ensures e g

@@ -4,4 +4,4 @@ use Rattle.script.proofs.changes.with_faults.Goals as goal
 
 pub returns : goal.returns
 unfolding KeepsOn MovesOn FaultsOn
-returns c = λ text places g s keeps. c.moved.ensures text s s.stage places keeps keeps.stage_is keeps.check_is g
+returns c = λ text places g s keeps. c.moved.ensures text s s.stage places keeps keeps.phase_is g

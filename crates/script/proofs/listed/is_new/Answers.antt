@@ -1,5 +1,6 @@
 -- `script::listed::is_new` meets its contract. Assumes nothing.
 use mathlib.Core.Path.{refl, sym, ◌∙◌}
+use Rattle.std.proofs.Common.{rules}
 use Rattle.script.proofs.Listing.{symbol_is, no_name, index_tells}
 use Rattle.script.proofs.listed.is_new.Goals as goal
 
@@ -11,4 +12,5 @@ returns-then-is_theory_word c = rw (symbol_is c.requires.0.word_is c.if-form-ne-
 
 pub returns : goal.returns
 returns c =
-    rw (symbol_is c.requires.0.word_is c.if-form-ne-SYMBOL.false, sym c.is_theory_word.ensures ∙ c.if-is_theory_word.false) (index_tells _ _ _ _ c.name_index.ensures)
+    let told = index_tells _ _ _ _ c.name_index.ensures in
+    rw (symbol_is c.requires.0.word_is c.if-form-ne-SYMBOL.false, sym c.is_theory_word.ensures ∙ c.if-is_theory_word.false) (search (rules, told))

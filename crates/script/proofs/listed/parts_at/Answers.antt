@@ -10,7 +10,7 @@ returns-then-first-lt-OPEN c = rw (no_parts _ _ _ _ c.form_at-first.ensures.read
 pub returns-then-second-lt-OPEN : goal.returns-then-second-lt-OPEN
 returns-then-second-lt-OPEN c =
     let first = part_here _ _ _ _ c.form_at-first.ensures.read c.requires.unbroken c.form_at-first.ensures.stands c.if-first-lt-OPEN.false _ c.form_end.ensures.behind in
-    rw (first.parts, no_parts _ _ _ _ c.form_at-second.ensures.read first.unbroken c.if-second-lt-OPEN.true) (one_part refl first.says)
+    rw (first.parts, no_parts _ _ _ _ c.form_at-second.ensures.read first.unbroken c.if-second-lt-OPEN.true) (one_part _ refl first.says)
 
 pub parts_behind-requires : goal.parts_behind-requires
 parts_behind-requires c =

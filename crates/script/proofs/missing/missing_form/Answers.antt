@@ -2,8 +2,8 @@
 use Rattle.script.proofs.Telling.{check_sat_missing, assertion_missing}
 use Rattle.script.proofs.missing.missing_form.Goals as goal
 
-pub returns-then-kept-ne-CHECKED : goal.returns-then-kept-ne-CHECKED
-returns-then-kept-ne-CHECKED c = rw c.unless.ensures (check_sat_missing _ _ c.if-kept-ne-CHECKED.true)
+pub returns-in-Checked : goal.returns-in-Checked
+returns-in-Checked c = rw c.unless.ensures (assertion_missing _ _ c.in-Checked.is _)
 
-pub returns : goal.returns
-returns c = rw c.unless-2.ensures (assertion_missing _ _ c.if-kept-ne-CHECKED.false)
+pub returns-in_default : goal.returns-in_default
+returns-in_default c = rw c.unless-in_default.ensures (check_sat_missing _ c.in_default.not-Checked _)

@@ -1,4 +1,4 @@
-use Prim.Native.Nat.{ℕ, ◌-◌, ◌≤◌}
+use Prim.Native.Nat.{ℕ}
 use mathlib.Core.Path.{◌≡◌}
 use mathlib.Core.Bool.{Bool, false}
 use mathlib.Core.List.{List}
@@ -13,7 +13,4 @@ declared_by names tokens places signed j = record { name = names j; place = get_
 
 abbrev pub invariant-loop-i : goal.invariant-loop-i
 invariant-loop-i l =
-    (l.i ≤ l.count) × ((names : ℕ → List ℕ) (tokens : ℕ → ℕ) → l.spot ≡ spot_of (lowest_of (unsigned (declarations_from (λ j. declared_by names tokens l.places l.signed j) 0 l.i))))
-
-abbrev pub decreases-loop-i : goal.decreases-loop-i
-decreases-loop-i l = l.count - l.i
+    (names : ℕ → List ℕ) (tokens : ℕ → ℕ) → l.spot ≡ spot_of (lowest_of (unsigned (declarations_from (λ j. declared_by names tokens l.places l.signed j) 0 l.i)))

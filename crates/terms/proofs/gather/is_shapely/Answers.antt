@@ -1,26 +1,20 @@
 -- `terms::gather::is_shapely` meets its contract. Assumes nothing.
-use borrow.Author.Tests.{eq-eqb, ne_eqb}
+use mathlib.Core.Path.{refl}
 use Rattle.terms.specs.Gathered.{shapely_at}
+use Rattle.terms.proofs.HeadCodes.{other_shape}
 use Rattle.terms.proofs.gather.is_shapely.Goals as goal
 
-pub returns-then-head-eq-PLUS : goal.returns-then-head-eq-PLUS
+pub returns-in-Plus : goal.returns-in-Plus
 unfolding shapely_at
-returns-then-head-eq-PLUS c = rw (eq-eqb c.args.head 0 c.if-head-eq-PLUS.true)
+returns-in-Plus c = rw c.in-Plus.is refl
 
-pub returns-then-head-eq-MINUS : goal.returns-then-head-eq-MINUS
+pub returns-in-Minus : goal.returns-in-Minus
 unfolding shapely_at
-returns-then-head-eq-MINUS c =
-    let h = c.args.head in
-    rw (ne_eqb h 0 c.if-head-eq-PLUS.false, eq-eqb h 1 c.if-head-eq-MINUS.true)
+returns-in-Minus c = rw c.in-Minus.is refl
 
-pub returns-then-head-eq-TIMES : goal.returns-then-head-eq-TIMES
+pub returns-in-Times : goal.returns-in-Times
 unfolding shapely_at
-returns-then-head-eq-TIMES c =
-    let h = c.args.head in
-    rw (ne_eqb h 0 c.if-head-eq-PLUS.false, ne_eqb h 1 c.if-head-eq-MINUS.false, eq-eqb h 2 c.if-head-eq-TIMES.true)
+returns-in-Times c = rw c.in-Times.is refl
 
-pub returns : goal.returns
-unfolding shapely_at
-returns c =
-    let h = c.args.head in
-    rw (ne_eqb h 0 c.if-head-eq-PLUS.false, ne_eqb h 1 c.if-head-eq-MINUS.false, ne_eqb h 2 c.if-head-eq-TIMES.false)
+pub returns-in_default : goal.returns-in_default
+returns-in_default c = other_shape c.args.head c.args.count c.args.numeral c.in_default.not-Plus c.in_default.not-Minus c.in_default.not-Times

@@ -1,53 +1,46 @@
--- `terms::gather::numbers_by` meets its contract, by the head's code. Assumes nothing.
-use borrow.Author.Tests.{eq-eqb, ne_eqb, lt-ltb, le-ltb}
-use Rattle.scope.specs.Whole.{all}
+-- `terms::gather::numbers_by` meets its contract, by the head. Assumes nothing.
+use native.Mathlib.Omega.{arith}
+use mathlib.Core.Logic.{⊎_elim}
+use borrow.Author.Tests.{ne_eqb, le-ltb}
 use Rattle.smtlib.specs.Terms.{collected_fit}
 use Rattle.terms.specs.Gathering.{numbers_by}
+use Rattle.terms.specs.Heads.{word_code}
+use Rattle.terms.proofs.HeadCodes.{larger_first}
 use Rattle.terms.proofs.gather.numbers_by.Goals as goal
 
-pub returns-then-head-eq-PLUS : goal.returns-then-head-eq-PLUS
-returns-then-head-eq-PLUS c = record { of_plus = λ e. c.flat.ensures; of_others = λ n. absurd (n c.if-head-eq-PLUS.true) }
-
-pub product-requires : goal.product-requires
-product-requires c =
-    (c.requires.0.first_fits, (c.requires.0.second_fits, c.requires.1 c.if-head-eq-TIMES.true))
-
-pub returns-then-head-eq-TIMES : goal.returns-then-head-eq-TIMES
-unfolding numbers_by
-returns-then-head-eq-TIMES c =
-    let h = c.args.head in
-    record {
-      of_plus = λ e. absurd (c.if-head-eq-PLUS.false e);
-      of_others = λ n. rw (eq-eqb h 2 c.if-head-eq-TIMES.true) c.product.ensures;
-    }
-
 pub difference-requires : goal.difference-requires
-unfolding collected_fit all
+unfolding collected_fit
 difference-requires c = (tt, c.requires.0.first_fits.within_limit)
 
-pub returns-then-head-g : goal.returns-then-head-g
+pub returns-in-Times : goal.returns-in-Times
 unfolding numbers_by
-returns-then-head-g c =
-    let h = c.args.head in
-    record {
-      of_plus = λ e. absurd (c.if-head-eq-PLUS.false e);
-      of_others = λ n. rw (ne_eqb h 2 c.if-head-eq-TIMES.false, c.if-head-g.true) c.difference.ensures;
-    }
+returns-in-Times c = rw c.in-Times.is record { of_plus = λ e. absurd (omega (arith, e)); of_others = λ n. c.product.ensures }
 
-pub returns-then-head-lt-AT_LEAST : goal.returns-then-head-lt-AT_LEAST
+pub returns-then-g-eq1 : goal.returns-then-g-eq1
 unfolding numbers_by
-returns-then-head-lt-AT_LEAST c =
-    let h = c.args.head in
-    record {
-      of_plus = λ e. absurd (c.if-head-eq-PLUS.false e);
-      of_others = λ n. rw (ne_eqb h 2 c.if-head-eq-TIMES.false, c.if-head-g.false, lt-ltb h 6 c.if-head-lt-AT_LEAST.true) c.less.ensures;
-    }
+returns-then-g-eq1 c = rw (c.in-Minus.is, c.if-g-eq1.true) record { of_plus = λ e. absurd (omega (arith, e)); of_others = λ n. c.difference.ensures }
 
-pub returns : goal.returns
+pub returns-else-g-eq1 : goal.returns-else-g-eq1
 unfolding numbers_by
-returns c =
-    let h = c.args.head in
+returns-else-g-eq1 c = rw c.in-Minus.is record { of_plus = λ e. absurd (omega (arith, e)); of_others = λ n. rw (ne_eqb c.args.g.count 1 c.if-g-eq1.false) c.less.ensures }
+
+pub returns-in-Equal : goal.returns-in-Equal
+unfolding numbers_by
+returns-in-Equal c =
+    ⊎_elim
+    (λ e. rw e record { of_plus = λ z. absurd (omega (arith, z)); of_others = λ n. c.less-in-Equal.ensures })
+    (⊎_elim
+    (λ e. rw e record { of_plus = λ z. absurd (omega (arith, z)); of_others = λ n. c.less-in-Equal.ensures })
+    (λ e. rw e record { of_plus = λ z. absurd (omega (arith, z)); of_others = λ n. c.less-in-Equal.ensures }))
+    c.in-Equal.is
+
+pub returns-in_default : goal.returns-in_default
+unfolding numbers_by
+returns-in_default c =
+    let d = c.in_default in
+    let l = larger_first c.args.head d.not-Plus d.not-Minus d.not-Times d.not-Equal d.not-AtMost d.not-Less in
+    let code = word_code c.args.head in
     record {
-      of_plus = λ e. absurd (c.if-head-eq-PLUS.false e);
-      of_others = λ n. rw (ne_eqb h 2 c.if-head-eq-TIMES.false, c.if-head-g.false, le-ltb h 6 c.if-head-lt-AT_LEAST.false) c.less-2.ensures;
+      of_plus = λ e. absurd (omega (arith, l, e));
+      of_others = λ n. rw (ne_eqb code 2 (λ e. omega (arith, l, e)), ne_eqb code 1 (λ e. omega (arith, l, e)), le-ltb code 6 l) c.less-in_default.ensures;
     }

@@ -1,5 +1,5 @@
--- `terms::sums::added` meets its contract. The invariant: to the first i numbers the part's are added, and the others are as they were. The measure is
--- 7 less i. Assumes nothing.
+-- `terms::sums::added` meets its contract. The invariant: to the first i numbers the part's are added, and the others are as they were.
+-- Assumes nothing.
 use native.Mathlib.Omega.{arith}
 use mathlib.Core.Path.{◌≡◌}
 use lib.ListN.{length}

@@ -1,4 +1,4 @@
--- `terms::sums::difference` meets its contract. The invariant: the first i differences stand there. The measure is 7 less i. Assumes nothing.
+-- `terms::sums::difference` meets its contract. The invariant: the first i differences stand there. Assumes nothing.
 use Prim.Native.Nat.{◌≤◌}
 use mathlib.Core.Path.{◌≡◌, refl, sym, ◌∙◌}
 use lib.ListN.{length}

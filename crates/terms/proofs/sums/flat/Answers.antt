@@ -1,4 +1,4 @@
--- `terms::sums::flat` meets its contract. The invariant: the first i numbers stand there. The measure is 7 less i. Assumes nothing.
+-- `terms::sums::flat` meets its contract. The invariant: the first i numbers stand there. Assumes nothing.
 use native.Mathlib.Omega.{arith}
 use mir.Syntax.{w64}
 use mir.ValLaws.{to_z-of_z}
@@ -7,8 +7,8 @@ use Rattle.terms.specs.Seven.{lane, LaneFlat}
 use Rattle.terms.proofs.Sevens.{filled_none, filled_next}
 use Rattle.terms.proofs.sums.flat.Goals as goal
 
-pub flat_lane-number-requires : goal.flat_lane-number-requires
-flat_lane-number-requires c =
+pub flat_lane-requires : goal.flat_lane-requires
+flat_lane-requires c =
     let i = c.loop-i.i in
     rw (to_z-of_z w64 (lane c.args.sum.low i) (record { sfits = search rules })) (c.requires.lanes i c.loop-i-test.true)
 
@@ -18,8 +18,8 @@ loop-i-preserved c =
     let i = c.loop-i.i in
     let low = to_z-of_z w64 (lane a.low i) (record { sfits = search rules }) in
     let high = to_z-of_z w64 (lane a.high i) (record { sfits = search rules }) in
-    let is : LaneFlat (lane a.low i) (lane a.high i) c.flat_lane-number.result = rw (low, high) at c.flat_lane-number.ensures in
-    rw (to_z-of_z w64 c.flat_lane-number.result (record { sfits = c.flat_lane-number.type_inv })) (filled_next c.loop-i.invariant c.loop-i-test.true is)
+    let is : LaneFlat (lane a.low i) (lane a.high i) c.flat_lane.result = rw (low, high) at c.flat_lane.ensures in
+    rw (to_z-of_z w64 c.flat_lane.result (record { sfits = c.flat_lane.type_inv })) (filled_next c.loop-i.invariant c.loop-i-test.true is)
 
 pub returns : goal.returns
 returns c =

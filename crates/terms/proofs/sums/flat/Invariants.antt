@@ -1,10 +1,6 @@
-use Prim.Native.Nat.{◌-◌}
 use Rattle.terms.specs.Seven.{lane, LaneFlat}
 use Rattle.terms.proofs.Sevens.{FilledTo}
 use Rattle.terms.proofs.sums.flat.Given as goal
 
 abbrev pub invariant-loop-i : goal.invariant-loop-i
 invariant-loop-i l = FilledTo (λ k z. LaneFlat (lane l.low k) (lane l.high k) z) l.numbers l.i
-
-abbrev pub decreases-loop-i : goal.decreases-loop-i
-decreases-loop-i l = 7 - l.i

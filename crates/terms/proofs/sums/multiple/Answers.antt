@@ -1,4 +1,4 @@
--- `terms::sums::multiple` meets its contract. The invariant: the first i products stand there. The measure is 7 less i. Assumes nothing.
+-- `terms::sums::multiple` meets its contract. The invariant: the first i products stand there. Assumes nothing.
 use Prim.Native.Nat.{◌≤◌}
 use mathlib.Core.Path.{◌≡◌, refl, ◌∙◌}
 use lib.ListN.{length}

@@ -1,4 +1,3 @@
-use Prim.Native.Nat.{◌-◌}
 use mathlib.Core.Path.{◌≡◌}
 use lib.IntN.{◌*ℤ◌}
 use Rattle.terms.specs.Seven.{lane}
@@ -7,6 +6,3 @@ use Rattle.terms.proofs.sums.multiple.Given as goal
 
 abbrev pub invariant-loop-i : goal.invariant-loop-i
 invariant-loop-i l = FilledTo (λ k z. z ≡ l.factor *ℤ lane l.of k) l.numbers l.i
-
-abbrev pub decreases-loop-i : goal.decreases-loop-i
-decreases-loop-i l = 7 - l.i

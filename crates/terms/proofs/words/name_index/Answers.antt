@@ -1,5 +1,5 @@
--- `terms::words::name_index` meets its contract. The invariant: looked for from name i on, the name is found where it is found. The measure is the names
--- left. Assumes nothing.
+-- `terms::words::name_index` meets its contract. The invariant: looked for from name i on, the name is found where it is found.
+-- Assumes nothing.
 use native.Mathlib.Omega.{arith}
 use native.Mathlib.Nat.{sub-zero}
 use mathlib.Core.Path.{sym, ◌∙◌}
@@ -17,10 +17,7 @@ pub returns-then-same_stretch : goal.returns-then-same_stretch
 returns-then-same_stretch c =
     let t = c.loop-i-test.true in
     let w = stretch c.args.text.now c.args.from c.args.to in
-    record {
-      there = λ h. sym c.loop-i.invariant.1 ∙ index_here c.args.text.now c.args.names.now w c.args.count c.loop-i.i t (sym c.same_stretch.ensures ∙ c.if-same_stretch.true);
-      none_there = λ h. absurd (omega (arith, t));
-    }
+    (t, sym c.loop-i.invariant.1 ∙ index_here c.args.text.now c.args.names.now w c.args.count c.loop-i.i t (sym c.same_stretch.ensures ∙ c.if-same_stretch.true))
 
 pub loop-i-preserved : goal.loop-i-preserved
 loop-i-preserved c =
@@ -31,37 +28,7 @@ loop-i-preserved c =
 pub returns : goal.returns
 returns c =
     let w = stretch c.args.text.now c.args.from c.args.to in
-    record {
-      there = λ h. absurd (omega arith);
-      none_there = λ h. sym c.loop-i.invariant.1 ∙ index_end c.args.text.now c.args.names.now w c.args.count c.loop-i.i c.loop-i-test.false;
-    }
+    sym c.loop-i.invariant.1 ∙ index_end c.args.text.now c.args.names.now w c.args.count c.loop-i.i c.loop-i-test.false
 
 pub loop-i-init : goal.loop-i-init
 loop-i-init c = (omega arith, rw (sub-zero c.args.count))
-
-pub overflow_mul-i : goal.overflow_mul-i
-overflow_mul-i c = omega arith
-
-pub offset_bounds-names-i : goal.offset_bounds-names-i
-offset_bounds-names-i c = omega arith
-
-pub bounds-names-i : goal.bounds-names-i
-bounds-names-i c = omega arith
-
-pub overflow_mul-i-in-loop-i : goal.overflow_mul-i-in-loop-i
-overflow_mul-i-in-loop-i c = omega arith
-
-pub overflow_add-i : goal.overflow_add-i
-overflow_add-i c = omega arith
-
-pub offset_bounds-names-i-in-loop-i : goal.offset_bounds-names-i-in-loop-i
-offset_bounds-names-i-in-loop-i c = omega arith
-
-pub bounds-names-i-in-loop-i : goal.bounds-names-i-in-loop-i
-bounds-names-i-in-loop-i c = omega arith
-
-pub overflow_add-i-in-loop-i : goal.overflow_add-i-in-loop-i
-overflow_add-i-in-loop-i c = omega arith
-
-pub loop-i-smaller : goal.loop-i-smaller
-loop-i-smaller c = omega arith

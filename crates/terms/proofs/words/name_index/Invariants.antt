@@ -8,6 +8,3 @@ use Rattle.terms.proofs.words.name_index.Given as goal
 abbrev pub invariant-loop-i : goal.invariant-loop-i
 invariant-loop-i l =
     (l.i ≤ l.count) × (index_from l.i (stretch l.text l.from l.to) (names_from l.text l.names l.i (l.count - l.i)) ≡ index_from 0 (stretch l.text l.from l.to) (names_in l.text l.names l.count))
-
-abbrev pub decreases-loop-i : goal.decreases-loop-i
-decreases-loop-i l = l.count - l.i

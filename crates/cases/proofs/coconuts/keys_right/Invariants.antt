@@ -1,9 +1,0 @@
--- `cases::coconuts::keys_right` is safe and ends: what is left of the cells falls. Assumes nothing.
-use Prim.Native.Nat.{◌-◌}
-use Rattle.cases.proofs.coconuts.keys_right.Given as goal
-
-abbrev pub invariant-loop-c : goal.invariant-loop-c
-invariant-loop-c l = Unit
-
-abbrev pub decreases-loop-c : goal.decreases-loop-c
-decreases-loop-c l = 245 - l.c

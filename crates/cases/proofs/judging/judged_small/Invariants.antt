@@ -1,9 +1,0 @@
--- `cases::judging::judged_small` is safe and ends: what is left of the tuples falls. Assumes nothing.
-use Prim.Native.Nat.{◌-◌}
-use Rattle.cases.proofs.judging.judged_small.Given as goal
-
-abbrev pub invariant-loop-number : goal.invariant-loop-number
-invariant-loop-number l = Unit
-
-abbrev pub decreases-loop-number : goal.decreases-loop-number
-decreases-loop-number l = l.count - l.number

@@ -1,0 +1,2 @@
+-- What the answers of `told` cite.
+pub mod Refused

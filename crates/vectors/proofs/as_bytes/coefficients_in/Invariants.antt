@@ -1,9 +1,0 @@
--- `vectors::as_bytes::coefficients_in` is safe and ends: what is left of the coefficients falls. Assumes nothing.
-use Rattle.std.proofs.Common.{◌-◌}
-use Rattle.vectors.proofs.as_bytes.coefficients_in.Given as goal
-
-abbrev pub invariant-loop-i : goal.invariant-loop-i
-invariant-loop-i l = Unit
-
-abbrev pub decreases-loop-i : goal.decreases-loop-i
-decreases-loop-i l = 48 - l.i

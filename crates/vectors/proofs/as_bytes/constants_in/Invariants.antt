@@ -1,9 +1,0 @@
--- `vectors::as_bytes::constants_in` is safe and ends: what is left of the constants falls. Assumes nothing.
-use Rattle.std.proofs.Common.{◌-◌}
-use Rattle.vectors.proofs.as_bytes.constants_in.Given as goal
-
-abbrev pub invariant-loop-i : goal.invariant-loop-i
-invariant-loop-i l = Unit
-
-abbrev pub decreases-loop-i : goal.decreases-loop-i
-decreases-loop-i l = 8 - l.i
