@@ -1,9 +1,9 @@
 // The formula's truths for all the worths at once, settled from its parts: each connective stands before its parts, and the depth left falls at each call.
 #![tactic(auto)]
 
-ghost use Rattle.std.specs.Prelude.{◌≡◌, ℕ, Bool, not, ◌||◌, List, [], ◌∷◌, map, ◌<◌, length, get_or};
+ghost use Rattle.std.specs.Prelude.{◌≡◌, ℕ, Bool, false, not, ◌||◌, List, [], ◌∷◌, map, ◌<◌, length, get_or};
 ghost use Rattle.scope.specs.Question.{node_of};
-ghost use Rattle.scope.specs.Sizes.{most_nodes};
+ghost use Rattle.scope.specs.Sizes.{most_atoms, most_nodes};
 ghost use Rattle.formula.specs.Truths.{worths_number, truth_at, WordsOf, TruthsOf};
 ghost use Rattle.formula.specs.Parts.{Placed, Settles};
 
@@ -15,17 +15,22 @@ pub const WORDS: usize = 4;
 
 const ALL: u64 = u64::MAX;
 
-// The words of each atom's worth.
-const ATOM_WORDS: [[u64; WORDS]; Question::ATOMS] = [
-    [0xaaaa_aaaa_aaaa_aaaa; WORDS],
-    [0xcccc_cccc_cccc_cccc; WORDS],
-    [0xf0f0_f0f0_f0f0_f0f0; WORDS],
-    [0xff00_ff00_ff00_ff00; WORDS],
-    [0xffff_0000_ffff_0000; WORDS],
-    [0xffff_ffff_0000_0000; WORDS],
-    [0, ALL, 0, ALL],
-    [0, 0, ALL, ALL],
-];
+// The words of an atom's worth. A match and no table: a table would stand in the frame of `settle`, once for each depth.
+fn atom_words(atom: usize) -> [u64; WORDS]
+    requires { atom < most_atoms }
+    ensures { WordsOf (λ (ws : List Bool). get_or ws atom false) result }
+{
+    match atom {
+        0 => [0xaaaa_aaaa_aaaa_aaaa; WORDS],
+        1 => [0xcccc_cccc_cccc_cccc; WORDS],
+        2 => [0xf0f0_f0f0_f0f0_f0f0; WORDS],
+        3 => [0xff00_ff00_ff00_ff00; WORDS],
+        4 => [0xffff_0000_ffff_0000; WORDS],
+        5 => [0xffff_ffff_0000_0000; WORDS],
+        6 => [0, ALL, 0, ALL],
+        _ => [0, 0, ALL, ALL],
+    }
+}
 
 fn denied(x: [u64; WORDS]) -> [u64; WORDS]
     ensures { WordsOf (λ (ws : List Bool). not (truth_at x ws)) result }
@@ -71,9 +76,10 @@ fn settle(codes: &[u8; Question::NODES], node: usize, atom: usize, depth: usize)
         return Part::falsehood(node, atom);
     }
     let next = node + 1;
-    match codes[node] {
+    let code = codes[node];
+    match code {
         1 | 2 if atom < Question::ATOMS => Part {
-            truths: ATOM_WORDS[atom],
+            truths: atom_words(atom),
             node: next,
             atom: atom + 1,
         },
@@ -82,15 +88,13 @@ fn settle(codes: &[u8; Question::NODES], node: usize, atom: usize, depth: usize)
             let truths = denied(p.truths);
             Part { truths, ..p }
         }
-        4 => {
+        4 | 5 => {
             let p = settle(codes, next, atom, depth - 1);
             let r = settle(codes, p.node, p.atom, depth - 1);
-            let truths = joined(p.truths, r.truths, |x, y| x & y);
-            Part { truths, ..r }
-        }
-        5 => {
-            let p = settle(codes, next, atom, depth - 1);
-            let r = settle(codes, p.node, p.atom, depth - 1);
+            if code == 4 {
+                let truths = joined(p.truths, r.truths, |x, y| x & y);
+                return Part { truths, ..r };
+            }
             let truths = joined(p.truths, r.truths, |x, y| x | y);
             Part { truths, ..r }
         }
