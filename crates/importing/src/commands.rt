@@ -98,7 +98,11 @@ pub fn lay_commands(
     };
     // How many commands there are is known at the end alone: a walk from form to form, and no iterator.
     while 0 < progress.left {
-        progress = lay_command(text, names, progress)?;
+        // A `match` and no `?`: a must-fail edit plants its wrong program in the arm of the refusal.
+        match lay_command(text, names, progress) {
+            Ok(further) => progress = further,
+            Err(refusal) => return Err(refusal),
+        }
     }
     Ok(progress.laying)
 }

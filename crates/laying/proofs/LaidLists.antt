@@ -46,7 +46,7 @@ later_same : {c d : Clause} {cs ds : List Clause} → ◌≡◌ {A = List Clause
 later_same e = cc
 
 -- where what was laid ends
-pub sides_further : (at next most : ℕ) (r : Result Laid Refusal) → at < next → IfOk r (λ q. (next < q.next) × (q.next ≤ most)) → IfOk r (λ q. (at < q.next) × (q.next ≤ most))
+pub sides_further : (at next most : ℕ) (r : Result ℕ Refusal) → at < next → IfOk r (λ q. (next < q) × (q ≤ most)) → IfOk r (λ q. (at < q) × (q ≤ most))
 sides_further at next most (Ok q) l h = (omega (arith, l, h.0), h.1)
 sides_further at next most (Err e) l h = tt
 

@@ -1,5 +1,5 @@
 -- A question as far as its nodes are laid, and the first refusal among them.
-use Rattle.std.specs.Prelude.{ℕ, ◌≤◌, ◌≡◌, Bool, not, ◌&&◌, ◌||◌, List, [], ◌∷◌, ◌++◌, map, length, take, leb, ltb, Result, Ok, Err}
+use Rattle.std.specs.Prelude.{ℕ, ◌≤◌, ◌≡◌, ⊤, Bool, not, ◌&&◌, ◌||◌, List, [], ◌∷◌, ◌++◌, map, length, take, leb, ltb, Result, Ok, Err}
 use Rattle.std.proofs.Math.Option.{none, some}
 use Rattle.scope.specs.declared.Rule.{Rule}
 use Rattle.scope.specs.declared.Question.{Question}
@@ -72,3 +72,8 @@ pub record Refuses (xs : List PlacedNode) (before : Laying) (r : Refusal) : Type
 abbrev pub LaysOr : List PlacedNode → Laying → Result Laying Refusal → Type 0
 LaysOr xs before (Ok after) = LaysMore xs before after
 LaysOr xs before (Err r) = Refuses xs before r
+
+-- what a call leaves in the laying that it is lent, as its answer
+abbrev pub left_as : Laying → Result ⊤ Refusal → Result Laying Refusal
+left_as l (Ok done) = Ok l
+left_as l (Err r) = Err r

@@ -107,3 +107,8 @@ ClauseLaidOr text at depth names c before (Err e) = Refuses (placed_from before.
 
 unfoldable pub ClauseLays : List ℕ → ℕ → ℕ → List (List ℕ) → Laying → Result Laid Refusal → Type 0
 ClauseLays text at depth names before r = (c : Clause) (rest : List Clause) → clauses_of names (forms_at text at) ≡ c ∷ rest → ClauseLaidOr text at depth names c before r
+
+-- what a call leaves in the laying that it is lent, with the place that it gives, as its answer
+abbrev pub laid_as : Laying → Result ℕ Refusal → Result Laid Refusal
+laid_as l (Ok next) = Ok (record { laying = l; next = next })
+laid_as l (Err r) = Err r

@@ -1,12 +1,12 @@
 // Comparisons as atoms, from the collected numbers of their sides: the constant first, then a coefficient for each of six names.
-ghost use Rattle.std.specs.Prelude.{◌≡◌, true, [], ◌∷◌, ◌+◌, ◌≤◌, ◌<◌, take, drop, T, nat_abs, neg_ℤ};
+ghost use Rattle.std.specs.Prelude.{◌≡◌, true, [], ◌∷◌, ◌+◌, ◌≤◌, ◌<◌, take, drop, T, nat_abs, neg_ℤ, IfErr};
 ghost use Rattle.std.proofs.lemmas.List.Edits.{sets};
 ghost use Rattle.std.specs.List.{list_all};
 ghost use Rattle.scope.specs.Sizes.{most_variables, most_atoms, most_coefficients, most_constant, coefficient_fits, constant_fits};
 ghost use Rattle.smtlib.specs.Terms.{most_collected, collected_fit};
 ghost use Rattle.smtlib.specs.Formulas.{lowered};
 ghost use Rattle.terms.specs.Heads.{word_code};
-ghost use Rattle.laying.specs.Laid.{Layable, LaysOr};
+ghost use Rattle.laying.specs.Laid.{Layable, LaysOr, left_as};
 ghost use Rattle.laying.specs.Noted.{relation_of, comparison_code, with_numbers, comparison_laid};
 
 use crate::Laying;
@@ -89,36 +89,31 @@ fn with_row(
 }
 
 // One atom more: its row and its constant.
-fn with_numbers(laying: Laying, numbers: [i64; NUMBERS], constant: i64) -> Laying
-    requires { (laying.n ≤ most_variables) × ((laying.atoms < most_atoms) × ((list_all coefficient_fits (drop 1 numbers) ≡ true) × (constant_fits constant ≡ true))) }
-    ensures { result ≡ with_numbers laying (drop 1 numbers) constant }
+fn with_numbers(laying: &mut Laying, numbers: [i64; NUMBERS], constant: i64)
+    requires { (laying.old.n ≤ most_variables) × ((laying.old.atoms < most_atoms) × ((list_all coefficient_fits (drop 1 numbers) ≡ true) × (constant_fits constant ≡ true))) }
+    ensures { laying.new ≡ with_numbers laying.old (drop 1 numbers) constant }
 {
     let atoms = laying.atoms;
-    let coefficients = with_row(
+    laying.coefficients = with_row(
         laying.coefficients,
         Question::VARIABLES * atoms,
         laying.n,
         numbers,
     );
-    let mut constants = laying.constants;
-    constants[atoms] = narrow(constant);
-    Laying {
-        atoms: atoms + 1,
-        coefficients,
-        constants,
-        ..laying
-    }
+    laying.constants[atoms] = narrow(constant);
+    laying.atoms = atoms + 1;
 }
 
 // A comparison by its head, from the collected numbers of its sides: an atom at the depth at hand.
 pub fn lay_atom(
-    laying: Laying,
+    laying: &mut Laying,
     head: HeadWord,
     place: usize,
     numbers: [i64; NUMBERS],
-) -> Result<Laying, Refusal>
-    requires { Layable laying × ((3 ≤ word_code head) × ((word_code head ≤ 7) × T (collected_fit numbers))) }
-    ensures { LaysOr (comparison_laid laying.depth (word_code head) place numbers ∷ []) laying result }
+) -> Result<(), Refusal>
+    requires { Layable laying.old × ((3 ≤ word_code head) × ((word_code head ≤ 7) × T (collected_fit numbers))) }
+    ensures laid { LaysOr (comparison_laid laying.old.depth (word_code head) place numbers ∷ []) laying.old (left_as laying.new result) }
+    ensures kept { IfErr result (λ refused. laying.new ≡ laying.old) }
 {
     if !has_room(true, laying.nodes, laying.atoms, laying.depth) {
         return Err(Rule::TooMany.at(place));
@@ -130,6 +125,7 @@ pub fn lay_atom(
     if !constant_fits(constant) {
         return Err(Rule::ConstantBeyond.at(place));
     }
-    let more = with_numbers(laying, numbers, constant);
-    Ok(with_code(more, kind_code(head)))
+    with_numbers(laying, numbers, constant);
+    with_code(laying, kind_code(head));
+    Ok(())
 }

@@ -13,11 +13,12 @@ ghost use Rattle.terms.specs.Names.{names_in, NamesStand};
 ghost use Rattle.terms.specs.Heads.{word_code};
 ghost use Rattle.terms.specs.Read.{Inside};
 ghost use Rattle.laying.specs.Laid.{Layable};
-ghost use Rattle.laying.specs.Noted.{empty_laying, at_depth};
-ghost use Rattle.laying.specs.Texts.{FirstFaultless, AllFaultless, ListLays, PartsLaidOr, ClauseLays, join_code};
+ghost use Rattle.laying.specs.Noted.{empty_laying};
+ghost use Rattle.laying.specs.Texts.{FirstFaultless, AllFaultless, ListLays, PartsLaidOr, ClauseLays, join_code, laid_as};
 
 pub use atoms::lay_atom;
 use lists::{list_at, part_end};
+use nodes::deepen_within;
 pub use nodes::{at_depth, deepen_if, lay_connective};
 use scope::{Question, Refusal};
 use terms::{HeadWord, ListKind, terms_from};
@@ -57,13 +58,6 @@ pub struct Laid {
     pub next: usize,
 }
 
-fn laid_at(laying: Laying, depth: usize, next: usize) -> Laid
-    ensures { result ≡ record { laying = at_depth laying depth; next = next } }
-{
-    let laying = at_depth(laying, depth);
-    Laid { laying, next }
-}
-
 // A comparison's two sides, up to the list's end, laid as an atom. The place is the list's.
 fn lay_sides(
     text: &[u8],
@@ -73,18 +67,15 @@ fn lay_sides(
     names: &[usize],
     count: usize,
     nesting: usize,
-    laying: Laying,
-) -> Result<Laid, Refusal>
-    requires { NamesStand text.now names.now count × (Inside text.now at nesting × (Layable laying × ((3 ≤ word_code head) × (word_code head ≤ 7)))) }
-    ensures inside { IfOk result (λ r. (at < r.next) × (r.next ≤ length text.now)) }
-    ensures laid { ListLays text.now at (most_nesting - nesting) (names_in text.now names.now count) (word_code head) place laying result }
+    laying: &mut Laying,
+) -> Result<usize, Refusal>
+    requires { NamesStand text.now names.now count × (Inside text.now at nesting × (Layable laying.old × ((3 ≤ word_code head) × (word_code head ≤ 7)))) }
+    ensures inside { IfOk result (λ next. (at < next) × (next ≤ length text.now)) }
+    ensures laid { ListLays text.now at (most_nesting - nesting) (names_in text.now names.now count) (word_code head) place laying.old (laid_as laying.new result) }
 {
     let sides = terms_from(text, at, head, place, names, count, nesting);
-    let laying = lay_atom(laying, head, place, sides.term.numbers)?;
-    Ok(Laid {
-        laying,
-        next: sides.next,
-    })
+    lay_atom(laying, head, place, sides.term.numbers)?;
+    Ok(sides.next)
 }
 
 // The code of the connective that joins the parts of a list, by its head.
@@ -103,19 +94,19 @@ fn negates(head: HeadWord) -> bool
     matches!(head, HeadWord::Not)
 }
 
-// The formula without fault that stands next in a list, laid at the depth at hand.
-#[cycle(lay_from_lay_joined)]
-pub fn lay_from(
+// The formula without fault that stands next in a list, laid at the depth at hand: the place where what follows it starts.
+#[cycle(lay_into_lay_joined)]
+fn lay_into(
     text: &[u8],
     at: usize,
     names: &[usize],
     count: usize,
     nesting: usize,
-    laying: Laying,
-) -> Result<Laid, Refusal>
-    requires { NamesStand text.now names.now count × (Inside text.now at nesting × (Layable laying × FirstFaultless (clauses_of (names_in text.now names.now count) (forms_at text.now at)))) }
-    ensures inside { IfOk result (λ r. (at < r.next) × (r.next ≤ length text.now)) }
-    ensures laid { ClauseLays text.now at (most_nesting - nesting) (names_in text.now names.now count) laying result }
+    laying: &mut Laying,
+) -> Result<usize, Refusal>
+    requires { NamesStand text.now names.now count × (Inside text.now at nesting × (Layable laying.old × FirstFaultless (clauses_of (names_in text.now names.now count) (forms_at text.now at)))) }
+    ensures inside { IfOk result (λ next. (at < next) × (next ≤ length text.now)) }
+    ensures laid { ClauseLays text.now at (most_nesting - nesting) (names_in text.now names.now count) laying.old (laid_as laying.new result) }
 {
     let list = list_at(text, at);
     let left = nesting - 1;
@@ -124,15 +115,19 @@ pub fn lay_from(
             text, list.next, list.head, list.place, names, count, left, laying,
         );
     }
-    let begun = deepen_if(negates(list.head), laying, 3, list.place)?;
+    let depth = laying.depth;
+    deepen_within(negates(list.head), laying, 3, list.place)?;
     let code = join_code(list.head);
-    let parts = lay_joined(text, list.next, code, list.place, names, count, left, begun)?;
-    Ok(laid_at(parts.laying, laying.depth, parts.next))
+    let next = lay_joined(
+        text, list.next, code, list.place, names, count, left, laying,
+    )?;
+    at_depth(laying, depth);
+    Ok(next)
 }
 
 // The formulas that follow in a list up to its end, joined by a connective (4 and, 5 or) at the depth at hand: each but the last has a join before it, the
-// first at the list's place, the others at their part, and one level deeper from join to join.
-#[cycle(lay_from_lay_joined)]
+// first at the list's place, the others at their part, and one level deeper from join to join. Its answer is as above.
+#[cycle(lay_into_lay_joined)]
 fn lay_joined(
     text: &[u8],
     at: usize,
@@ -141,25 +136,41 @@ fn lay_joined(
     names: &[usize],
     count: usize,
     nesting: usize,
-    laying: Laying,
-) -> Result<Laid, Refusal>
-    requires { NamesStand text.now names.now count × (Inside text.now at nesting × (Layable laying × (((4 ≤ code) × (code ≤ 5)) × AllFaultless (clauses_of (names_in text.now names.now count) (forms_at text.now at))))) }
-    ensures inside { IfOk result (λ r. (at < r.next) × (r.next ≤ length text.now)) }
-    ensures laid { PartsLaidOr text.now at (most_nesting - nesting) (names_in text.now names.now count) code place laying result }
+    laying: &mut Laying,
+) -> Result<usize, Refusal>
+    requires { NamesStand text.now names.now count × (Inside text.now at nesting × (Layable laying.old × (((4 ≤ code) × (code ≤ 5)) × AllFaultless (clauses_of (names_in text.now names.now count) (forms_at text.now at))))) }
+    ensures inside { IfOk result (λ next. (at < next) × (next ≤ length text.now)) }
+    ensures laid { PartsLaidOr text.now at (most_nesting - nesting) (names_in text.now names.now count) code place laying.old (laid_as laying.new result) }
 {
     let depth = laying.depth;
-    let mut so_far = laying;
     let mut join = place;
     let mut next = at;
     loop {
         let end = part_end(text, next);
-        let begun = deepen_if(end.another.is_some(), so_far, code, join)?;
-        let part = lay_from(text, next, names, count, nesting, begun)?;
+        deepen_within(end.another.is_some(), laying, code, join)?;
+        let behind = lay_into(text, next, names, count, nesting, laying)?;
         let Some(following) = end.another else {
-            return Ok(laid_at(part.laying, depth, end.next));
+            at_depth(laying, depth);
+            return Ok(end.next);
         };
-        so_far = part.laying;
         join = following;
-        next = part.next;
+        next = behind;
     }
+}
+
+// The same into a laying of its own.
+pub fn lay_from(
+    text: &[u8],
+    at: usize,
+    names: &[usize],
+    count: usize,
+    nesting: usize,
+    mut laying: Laying,
+) -> Result<Laid, Refusal>
+    requires { NamesStand text.now names.now count × (Inside text.now at nesting × (Layable laying × FirstFaultless (clauses_of (names_in text.now names.now count) (forms_at text.now at)))) }
+    ensures inside { IfOk result (λ r. (at < r.next) × (r.next ≤ length text.now)) }
+    ensures laid { ClauseLays text.now at (most_nesting - nesting) (names_in text.now names.now count) laying result }
+{
+    let next = lay_into(text, at, names, count, nesting, &mut laying)?;
+    Ok(Laid { laying, next })
 }

@@ -20,15 +20,15 @@ use Rattle.laying.proofs.atoms.lay_atom.Goals.{After-coefficients_fit, After-con
 
 pub returns-then-not-has_room : goal.returns-then-not-has_room
 returns-then-not-has_room c =
-    rw c.at.ensures (no_room_lem c.args.laying (word_code c.args.head) c.args.place c.args.numbers (sym c.has_room.ensures ∙ c.if-not-has_room.true))
+    record { laid = rw c.at.ensures (no_room_lem c.args.laying.now (word_code c.args.head) c.args.place c.args.numbers (sym c.has_room.ensures ∙ c.if-not-has_room.true)); kept = refl }
 
 -- the room that was found
-room : (c : goal.After-coefficients_fit) → let l = c.args.laying in node_room true l.nodes l.atoms l.depth ≡ true
+room : (c : goal.After-coefficients_fit) → let l = c.args.laying.now in node_room true l.nodes l.atoms l.depth ≡ true
 room c = sym c.has_room.ensures ∙ c.if-not-has_room.false
 
 pub returns-then-not-coefficients_fit : goal.returns-then-not-coefficients_fit
 returns-then-not-coefficients_fit c =
-    rw c.at-then-not-coefficients_fit.ensures (coefficient_beyond c.args.laying (word_code c.args.head) c.args.place c.args.numbers (room (goal.at.returns-then-not-coefficients_fit c).After-coefficients_fit) (sym c.coefficients_fit.ensures ∙ c.if-not-coefficients_fit.true))
+    record { laid = rw c.at-then-not-coefficients_fit.ensures (coefficient_beyond c.args.laying.now (word_code c.args.head) c.args.place c.args.numbers (room (goal.at.returns-then-not-coefficients_fit c).After-coefficients_fit) (sym c.coefficients_fit.ensures ∙ c.if-not-coefficients_fit.true)); kept = refl }
 
 pub constant_for-constant-requires : goal.constant_for-constant-requires
 constant_for-constant-requires c =
@@ -45,19 +45,23 @@ module _ (c : goal.After-constant_fits) where
 
 pub returns-then-not-constant_fits : goal.returns-then-not-constant_fits
 returns-then-not-constant_fits c =
-    rw c.at-then-not-constant_fits.ensures (constant_beyond c.args.laying (word_code c.args.head) c.args.place c.args.numbers (room (goal.at.returns-then-not-constant_fits c).After-coefficients_fit) (few (goal.at.returns-then-not-constant_fits c).After-constant_fits) _ (constant (goal.at.returns-then-not-constant_fits c).After-constant_fits) (sym c.constant_fits.ensures ∙ c.if-not-constant_fits.true))
+    record { laid = rw c.at-then-not-constant_fits.ensures (constant_beyond c.args.laying.now (word_code c.args.head) c.args.place c.args.numbers (room (goal.at.returns-then-not-constant_fits c).After-coefficients_fit) (few (goal.at.returns-then-not-constant_fits c).After-constant_fits) _ (constant (goal.at.returns-then-not-constant_fits c).After-constant_fits) (sym c.constant_fits.ensures ∙ c.if-not-constant_fits.true)); kept = refl }
 
-pub with_numbers-more-requires : goal.with_numbers-more-requires
-with_numbers-more-requires c =
-    let l = c.args.laying in
-    (c.requires.0.few, ((room_for_lem true l.nodes l.atoms l.depth (room (goal.at.with_numbers-more-requires c).After-coefficients_fit)).few_atoms refl, (few (goal.at.with_numbers-more-requires c).After-constant_fits, sym c.constant_fits.ensures ∙ c.if-not-constant_fits.false)))
+pub with_numbers-requires : goal.with_numbers-requires
+with_numbers-requires c =
+    let l = c.args.laying.now in
+    (c.requires.0.few, ((room_for_lem true l.nodes l.atoms l.depth (room (goal.at.with_numbers-requires c).After-coefficients_fit)).few_atoms refl, (few (goal.at.with_numbers-requires c).After-constant_fits, sym c.constant_fits.ensures ∙ c.if-not-constant_fits.false)))
 
 pub with_code-requires : goal.with_code-requires
 with_code-requires c =
-    let l = c.args.laying in
-    rw c.with_numbers-more.ensures (room_for_lem true l.nodes l.atoms l.depth (room (goal.at.with_code-requires c).After-coefficients_fit)).few_nodes
+    let l = c.args.laying.now in
+    rw c.with_numbers.ensures (room_for_lem true l.nodes l.atoms l.depth (room (goal.at.with_code-requires c).After-coefficients_fit)).few_nodes
 
 pub returns : goal.returns
 returns c =
-    rw (c.with_code.ensures, c.with_numbers-more.ensures, c.kind_code.ensures)
-    (comparison_laid_lem c.args.laying (word_code c.args.head) c.args.place c.args.numbers (room (goal.at.returns c).After-coefficients_fit) (few (goal.at.returns c).After-constant_fits) _ (constant (goal.at.returns c).After-constant_fits) c.requires.0 (sym c.constant_fits.ensures ∙ c.if-not-constant_fits.false))
+    record {
+      laid =
+          rw (c.with_code.ensures, c.with_numbers.ensures, c.kind_code.ensures)
+          (comparison_laid_lem c.args.laying.now (word_code c.args.head) c.args.place c.args.numbers (room (goal.at.returns c).After-coefficients_fit) (few (goal.at.returns c).After-constant_fits) _ (constant (goal.at.returns c).After-constant_fits) c.requires.0 (sym c.constant_fits.ensures ∙ c.if-not-constant_fits.false));
+      kept = tt;
+    }
