@@ -1,41 +1,41 @@
 // Building a question's table: its states are numbered first, then every row of the table is written from the key rows.
 #![tactic(auto)]
 
-ghost use Rattle.std.specs.Prelude.{Ok, ◌≡◌, [], ◌/◌, ◌<◌, min};
+ghost use Rattle.std.specs.Prelude.{Ok, ◌≡◌, [], ◌/◌, ◌≤◌, ◌<◌, min};
 ghost use Rattle.scope.specs.Sizes.{most_states};
 ghost use Rattle.scope.specs.Building.{built_question, built};
 ghost use Rattle.theory.specs.Wire.Accepted.{WithinLimits};
 ghost use Rattle.plan.specs.Machine.{machine};
-ghost use Rattle.explore.specs.Standing.{Linked, Stands};
+ghost use Rattle.explore.specs.Standing.{Stands};
 ghost use Rattle.build.specs.Builds.{Builds, filled};
 ghost use Rattle.build.specs.Filling.{Filling, FilledFrom, built_answer};
 ghost use Rattle.build.specs.Asked.{BuildLends};
 
 use index::{NONE, store_row};
-use numbering::resume;
-use plan::{FEW, MANY, Plan, Stand, Stop, plan_of, resumed};
+use numbering::{LARGE, SMALL, resume};
+use plan::{FEW, Plan, Stand, Stop, plan_of, resumed};
 use scope::{Building, Question, Refusal, letters};
 use step::{Kinds, SUMS, kinds_of, letter_sums};
 use table::write_rows;
 
-// Numbers the states from where it stands, with an index that has no row yet. If each state has a row then, it writes the table from the same
-// index.
-fn fill_from(
+// Numbers the states from where it stands, with an index of its own, of so many links. If each state has a row then, it writes the table from
+// the same index. It is made here so that the small and the large one share their room on the stack.
+fn fill_from<const LINKS: usize>(
     plan: Plan,
     sums: &[i32; SUMS],
     keys: &mut [i32],
     path: &mut [u16],
     table: &mut [u16],
-    links: &mut [u16],
     from: Stand,
 ) -> Result<Stand, Stop>
     requires filling { Filling plan sums.now keys.old path.old table.old }
     requires stands { Stands (machine plan sums.now keys.old) plan keys.old path.old from }
-    requires linked { Linked plan keys.old links.old 0 }
+    requires room { (0 < LINKS / 2) × (LINKS / 2 ≤ 65536) × (plan.rows ≤ LINKS / 2) }
     ensures { FilledFrom plan sums.now from.count keys.old path.old table.old keys.new path.new table.new result }
 {
-    let s = resume(plan, sums, keys, path, links, from)?;
-    write_rows(table, plan, sums, keys, links, s.count);
+    let mut links = [NONE; LINKS];
+    let s = resume(plan, sums, keys, path, &mut links, from)?;
+    write_rows(table, plan, sums, keys, &links, s.count);
     Ok(s)
 }
 
@@ -58,13 +58,11 @@ fn fill(plan: Plan, sums: &[i32; SUMS], keys: &mut [i32], table: &mut [u16]) -> 
     // Only deciding has a path area.
     let mut path = [0u16; 1];
     let few = plan.rows.min(FEW);
-    let mut links = [NONE; 2 * FEW];
     let start = Stand::going(1, 0, 0);
     let fewer = plan.with_rows(few);
-    let ended = fill_from(fewer, sums, keys, &mut path, table, &mut links, start);
+    let ended = fill_from::<SMALL>(fewer, sums, keys, &mut path, table, start);
     if let Some(s) = resumed(ended, few, plan.rows) {
-        let mut links = [NONE; 2 * MANY];
-        return answer(fill_from(plan, sums, keys, &mut path, table, &mut links, s));
+        return answer(fill_from::<LARGE>(plan, sums, keys, &mut path, table, s));
     }
     answer(ended)
 }
@@ -112,6 +110,7 @@ fn build_question(question: &Question, keys: &mut [i32], table: &mut [u16]) -> B
 pub fn build(bytes: &[u8], keys: &mut [i32], table: &mut [u16]) -> Result<Building, Refusal>
     ensures { Builds (built bytes.now keys.old table.old) result keys.new table.new }
 {
-    let question = reading::read(bytes)?;
+    let mut question = Question::empty();
+    reading::read_into(bytes, &mut question)?;
     Ok(build_question(&question, keys, table))
 }

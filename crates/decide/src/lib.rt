@@ -86,6 +86,7 @@ pub fn decide(
 ) -> Result<Decision, Refusal>
     ensures { Decides (decided bytes.now keys.old path.old word.old) result keys.new path.new word.new }
 {
-    let question = reading::read(bytes)?;
+    let mut question = Question::empty();
+    reading::read_into(bytes, &mut question)?;
     Ok(decide_question(&question, keys, path, word))
 }

@@ -100,6 +100,7 @@ fn judge_question(question: &Question, values: &[u64]) -> Result<bool, Refusal>
 pub fn judge(bytes: &[u8], values: &[u64]) -> Result<bool, Refusal>
     ensures { result ≡ judged bytes.now values.now }
 {
-    let question = reading::read(bytes)?;
+    let mut question = Question::empty();
+    reading::read_into(bytes, &mut question)?;
     judge_question(&question, values)
 }

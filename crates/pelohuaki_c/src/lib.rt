@@ -17,7 +17,7 @@ ghost use Rattle.pelohuaki_c.specs.Bounds.{bounds_told};
 
 use importing::answer::BOUNDS;
 use lent::{copy_parts, tell, tell_import};
-use scope::Question;
+use scope::{Question, Refusal};
 
 pub fn pelohuaki_record_at(bytes: &[u8], at: usize, told: &mut [u64]) -> u64
     ensures { Gives 4 (record_told (record_at bytes.now at)) told.old result told.new }
@@ -34,18 +34,19 @@ pub fn pelohuaki_read(
 ) -> u64
     ensures { ReadsInto (read_held bytes.now) codes.old coefficients.old constants.old told.old result codes.new coefficients.new constants.new told.new }
 {
-    let answer = reading::read(bytes);
-    if let Ok(question) = &answer {
-        copy_parts(
-            &question.codes,
-            &question.coefficients,
-            &question.constants,
-            codes,
-            coefficients,
-            constants,
-        );
+    let mut question = Question::empty();
+    if let Err(refusal) = reading::read_into(bytes, &mut question) {
+        return tell(&Err::<Question, Refusal>(refusal), told);
     }
-    tell(&answer, told)
+    copy_parts(
+        &question.codes,
+        &question.coefficients,
+        &question.constants,
+        codes,
+        coefficients,
+        constants,
+    );
+    tell(&question, told)
 }
 
 pub fn pelohuaki_write(

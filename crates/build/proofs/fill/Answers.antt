@@ -3,7 +3,6 @@ use mathlib.Core.List.{[], ◌∷◌}
 use Prim.Native.Nat.{ℕ, ◌≤◌}
 use native.Mathlib.Omega.{arith}
 use Rattle.plan.specs.Moves.{with_rows}
-use Rattle.explore.specs.Stages.{none_linked}
 use Rattle.build.specs.Filling.{Filling, FilledFrom, any_path, from_start, few_filling, few_built, many_filling, many_stands, many_built}
 use Rattle.build.proofs.fill.Goals as goal
 use Rattle.build.proofs.fill.Goals.{After-fill_from-ended, Start}
@@ -22,7 +21,7 @@ fill_from-ended-requires c =
     (record {
       filling = fewer;
       stands = from_start fewer;
-      linked = none_linked (with_rows c.args.plan c.min-few.result) c.args.keys.now 512 given.task.narrow (omega arith) (omega arith) (omega (arith, least));
+      room = (omega arith, omega arith, omega (arith, least));
     })
 
 -- ---- few rows are filled
@@ -47,7 +46,7 @@ fill_from-requires c =
     record {
       filling = many_filling given less few same y.0;
       stands = many_stands given less few same y.0;
-      linked = none_linked c.args.plan _ 131072 given.task.narrow (omega arith) (omega arith) (omega (arith, given.ready.lent.few_rows));
+      room = (omega arith, omega arith, omega (arith, given.ready.lent.few_rows));
     }
 
 pub returns-in-Some : goal.returns-in-Some
