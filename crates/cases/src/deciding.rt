@@ -11,7 +11,7 @@ use search::pieces::word_satisfies;
 use search::plain::Values;
 use search::sheet::Sheet;
 use search::spelled::number_of;
-use search::tried::{WORDS, first_number, is_tuple_satisfied, tuples_of};
+use search::tried::{WORDS, first_number, tuples_of, tuples_satisfied};
 
 // The letters of a word whose values are judged at most.
 const SPELLED: usize = 40;
@@ -31,11 +31,11 @@ fn verdict_right(
     told: Result<Decision, Fault>,
     bound: u64,
     first: Option<u64>,
-    tuple: bool,
+    tuples: usize,
 ) -> bool {
     match told {
         Ok(Decision::NoRoom { states }) => states == ROWS && (ROWS as u64) < bound,
-        Ok(Decision::Never { states }) => states as u64 <= bound && first.is_none() && !tuple,
+        Ok(Decision::Never { states }) => states as u64 <= bound && first.is_none() && tuples == 0,
         Ok(Decision::Found { states, .. }) => states as u64 <= bound,
         _ => false,
     }
@@ -108,7 +108,7 @@ pub fn decided_amounts(
     few: usize,
 ) -> [(Kind, Option<usize>); 7] {
     let first = first_number(q);
-    let right = verdict_right(told, bound_of(q), first, is_tuple_satisfied(q));
+    let right = verdict_right(told, bound_of(q), first, tuples_satisfied(q));
     let (kind, right) = match told {
         Ok(Decision::Found { .. }) => (Kind::Found, right && word_right(q, bytes, word, first)),
         Ok(Decision::Never { .. }) => (Kind::Never, right),

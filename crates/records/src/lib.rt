@@ -14,7 +14,7 @@ pub use headers::{Header, header_at};
 pub use limits::{coefficient_fits, constant_fits, sized, variables_fit};
 pub use nodes::body_length;
 use scope::{Record, Refusal, Rule};
-pub use shape::Shape;
+pub use shape::{DUE, Shape};
 
 // A bare step: the record at a place, whatever its kind. Refused by 1 where its header or its body is cut.
 pub fn record_at(bytes: &[u8], at: usize) -> Result<Record, Refusal>

@@ -5,10 +5,10 @@ ghost use Rattle.records.specs.Formula.{first_due, Open, Grown, Unread};
 use scope::Question;
 
 // Room for the parts that can be due: no more than there are nodes, and one.
-const DUE: usize = Question::NODES + 2;
+pub const DUE: usize = Question::NODES + 2;
 
 // Its nodes and atoms so far. The depths of the parts still due stand in due from top on, the next one first.
-#[derive(Drop)]
+#[derive(Clone, Copy)]
 pub struct Shape {
     pub nodes: usize,
     pub atoms: usize,

@@ -3,7 +3,7 @@ use crate::sheet::Sheet;
 use scope::Question;
 
 // A number by what stands on either side.
-fn signed(plus: u64, minus: u64) -> i32 {
+pub fn signed(plus: u64, minus: u64) -> i32 {
     let size = |side: u64| i32::try_from(side).unwrap_or(i32::MAX);
     size(plus).saturating_sub(size(minus))
 }

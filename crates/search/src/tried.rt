@@ -58,9 +58,11 @@ pub fn tuple_at(number: u64, n: usize) -> Values {
     values
 }
 
-// Whether some tuple of small values satisfies.
-pub fn is_tuple_satisfied(q: &Sheet) -> bool {
-    (0..tuples_of(q.variables)).any(|number| satisfied(q, &tuple_at(number, q.variables)))
+// How many tuples of small values satisfy. Each is tried, as the count of those that were says.
+pub fn tuples_satisfied(q: &Sheet) -> usize {
+    (0..tuples_of(q.variables))
+        .filter(|number| satisfied(q, &tuple_at(*number, q.variables)))
+        .count()
 }
 
 // A tuple by chance of values up to the judge's limit.

@@ -1,4 +1,6 @@
 // Numbers as a line has them: decimal with a sign or without, lists of these joined by commas, and bytes in hexadecimal.
+ghost use Rattle.std.specs.Prelude.{◌≤◌, IfSome};
+
 use std::fmt;
 
 // The bytes of a question in a line at most.
@@ -127,7 +129,9 @@ pub fn signed(number: Option<Number>) -> i32 {
 }
 
 // A hexadecimal digit's worth.
-fn nibble(b: u8) -> Option<u8> {
+fn nibble(b: u8) -> Option<u8>
+    ensures { IfSome result (λ worth. worth ≤ 15) }
+{
     match b {
         b'0'..=b'9' => Some(b - b'0'),
         b'a'..=b'f' => Some(b - b'a' + 10),
