@@ -10,7 +10,7 @@ It prints nothing and exits 0 where all is well; else it prints a line for each 
    that file that is used outside the group, and for no other name.
 4. A name that a line `use M.{..}` brings in is used in the file. (The records of a function's Goals may be there for their fields.)
 5. A name in backticks in docs/ and README.md is in crates/, include/, rust/ or bench/. A name is one word with a capital, an underscore or a hyphen. A
-   path that begins with crates/ is there, with or without `.antt` or `.edit`. (docs/PORT.md and docs/DESIGN-PASS.md tell of names that were.)
+   path that begins with crates/ is there, with or without `.antt` or `.edit`. (docs/PORT.md, docs/DESIGN-PASS.md and docs/LOOK-BACK.md tell of names that were.)
 6. Each `old:` text of a must-fail edit is in its file exactly once, where the pairs before it are applied.
 7. The calls that pelohuaki_archive exports have the parameters and the contracts of those of pelohuaki_c.
 """
@@ -147,7 +147,7 @@ def documents_right(sources):
     for path in (p for folder in ("include", "rust", "bench") for p in Path(folder).glob("**/*")):
         if path.suffix in (".h", ".rs", ".toml") and "target" not in path.parts:
             known.update(re.findall(r"[\w-]+", path.read_text()))
-    for page in [*sorted(p for p in Path("docs").glob("**/*.md") if p.name not in ("PORT.md", "DESIGN-PASS.md")), Path("README.md")]:
+    for page in [*sorted(p for p in Path("docs").glob("**/*.md") if p.name not in ("PORT.md", "DESIGN-PASS.md", "LOOK-BACK.md")), Path("README.md")]:
         text = re.sub(r"^```.*?^```", lambda block: "\n" * block[0].count("\n"), page.read_text(), flags=re.M | re.S)
         for number, line in enumerate(text.split("\n"), 1):
             for name in re.findall(r"`([^`\s]+)`", line):
